@@ -1,0 +1,5 @@
+use Rattle.scale.proofs.Degrees.{lines-code}
+use Rattle.scale.proofs.scale.LinesCoded.code.Needs as need
+
+pub returns : need.returns
+returns c = lines-code (c .args .self)

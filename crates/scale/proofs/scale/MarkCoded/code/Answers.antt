@@ -1,0 +1,5 @@
+use Rattle.scale.proofs.Degrees.{mark-code}
+use Rattle.scale.proofs.scale.MarkCoded.code.Needs as need
+
+pub returns : need.returns
+returns c = mark-code (c .args .self)

@@ -1,0 +1,3 @@
+pub mod Scales
+pub mod Degrees
+pub mod Faults

@@ -1,0 +1,1 @@
+// Terms, sheets of equations, and what a best match is: definitions, and the theorems about them.
