@@ -151,10 +151,10 @@ fails B LeftOver bad =
       ),
     )
 
-bad-form-once : (B : List ℕ) (f g : FormFault) → BadForm B f → BadForm B g → f ≡ g
+pub bad-form-once : (B : List ℕ) (f g : FormFault) → BadForm B f → BadForm B g → f ≡ g
 bad-form-once B f g a b = fails-once (formChecks B) (single B) f g (fails B f a) (fails B g b)
 
-good-form-none : (B : List ℕ) (f : FormFault) → GoodForm B → BadForm B f → ⊥
+pub good-form-none : (B : List ℕ) (f : FormFault) → GoodForm B → BadForm B f → ⊥
 good-form-none B f good bad = passes-none (formChecks B) f (passes B good) (fails B f bad)
 
 pub form-only : (B : List ℕ) (r : Result (Unit {0}) FormFault) → Cases r (λ _. GoodForm B) (BadForm B) → Cases r (λ _. (f : FormFault) → BadForm B f → ⊥) (λ f. (g : FormFault) → BadForm B g → g ≡ f)
