@@ -1,0 +1,9 @@
+// What a translator reads of a book: an account of a good one, a sentence about a bad one. It prints nothing.
+mod degrees;
+mod names;
+mod words;
+
+pub use degrees::LinesTold;
+pub use degrees::MarkTold;
+pub use degrees::Told;
+pub use words::account;
