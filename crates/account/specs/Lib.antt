@@ -1,3 +1,5 @@
 pub mod Names
 pub mod Degrees
 pub mod Words
+pub mod Forms
+pub mod Laws

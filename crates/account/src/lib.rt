@@ -1,5 +1,7 @@
 // What a translator reads of a book: an account of a good one, a sentence about a bad one. It prints nothing.
 mod degrees;
+mod forms;
+mod laws;
 mod names;
 mod words;
 

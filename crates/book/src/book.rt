@@ -1,4 +1,4 @@
-use crate::likeness::likeness;
+use crate::degrees::likeness;
 use layout::Layout;
 use layout::LayoutLexicon;
 use scale::Lines;

@@ -1,6 +1,6 @@
+use crate::degrees::degree_at;
+use crate::degrees::likeness;
 use crate::fault::LawFault;
-use crate::likeness::degree_at;
-use crate::likeness::likeness;
 use layout::Layout;
 use scale::Scale;
 use scale::at_most;

@@ -1,9 +1,9 @@
 // Books of likenesses: their laws, their check, and the books that passed it. It knows nothing of terms.
 mod book;
 mod checks;
+mod degrees;
 mod fault;
 mod laws;
-mod likeness;
 
 pub use book::LinesBook;
 pub use book::LinesLexicon;
@@ -15,6 +15,7 @@ pub use checks::Kind;
 pub use checks::KindDebug;
 pub use checks::KindPartialEq;
 pub use checks::check;
+pub use degrees::likeness;
 pub use fault::BookCause;
 pub use fault::BookFault;
 pub use fault::BookFaultDebug;

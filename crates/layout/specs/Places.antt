@@ -1,8 +1,8 @@
 use mathlib.Core.Bool.{cond, _&&_}
 use mathlib.Core.List.{List}
 use Prim.Native.Nat.{ℕ, zero, suc, _+_, _*_}
-use lib.Dec.{ltb}
-use lib.ListN.{getD}
+use lib.Dec.{leb, ltb}
+use lib.ListN.{getD, length}
 use Rattle.std.specs.Holes.{between}
 use Rattle.std.specs.declared.option.Option.{Option}
 use Rattle.std.specs.declared.option.Option.the-variants.{None, Some}
@@ -58,3 +58,7 @@ codeOf B i j = cond (ltb i (countOf B) && ltb j (countOf B)) (Some (codeAt B i j
 -- The spelling of a number; nothing where it is no word.
 abbrev pub spellingOf : List ℕ → ℕ → Option (List ℕ)
 spellingOf B = known (countOf B) (spellingAt B)
+
+-- The spelling in the entry of word i, where the bytes hold that entry to its end.
+abbrev pub spellingIn : List ℕ → ℕ → Option (List ℕ)
+spellingIn B i = cond (leb (entryEnd B (entryStart B i)) (length B)) (Some (spellingAt B i)) None

@@ -4,8 +4,8 @@ use vocabulary::spells;
 ghost use Prim.Native.Nat.{ℕ, _+_, _<_, _≤_};
 ghost use Rattle.fault.specs.Firsts.{Below};
 ghost use Rattle.layout.specs.Entries.{BadEntry, Differs, FirstSpelled, GoodEntry, Present};
-ghost use Rattle.layout.specs.Places.{entryEnd, entryStart};
-ghost use Rattle.std.specs.Options.{Cases as BySome};
+ghost use Rattle.layout.specs.Places.{entryEnd, entryStart, spellingIn};
+ghost use Rattle.std.specs.Options.{Cases as BySome, mapped};
 ghost use Rattle.std.specs.Results.{Cases};
 ghost use lib.ListN.{length};
 ghost use mathlib.Core.Path.{_≡_};
@@ -96,4 +96,25 @@ pub fn entries(bytes: &[u8], count: u8) -> Result<usize, (u8, EntryFault)>
         }
     }
     Ok(at)
+}
+
+/// The spelling in the entry of word `i`, if the bytes hold that entry to its end, whether it is right or not.
+pub fn spelling_in(bytes: &[u8], i: u8) -> Option<&[u8]>
+    ensures { λ r. ⌜ mapped now r ≡ spellingIn (now (bytes .entry)) i ⌝ }
+{
+    let mut at = 5;
+    for _k in 0..i {
+        if at + 1 >= bytes.len() {
+            return None;
+        }
+        at = at + 2 + bytes[at + 1] as usize;
+    }
+    if at + 1 >= bytes.len() {
+        return None;
+    }
+    let end = at + 2 + bytes[at + 1] as usize;
+    if end > bytes.len() {
+        return None;
+    }
+    Some(&bytes[at + 2..end])
 }

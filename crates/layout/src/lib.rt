@@ -4,6 +4,7 @@ mod fault;
 mod form;
 mod layout;
 
+pub use entries::spelling_in;
 pub use fault::EntryFault;
 pub use fault::EntryFaultDebug;
 pub use fault::EntryFaultPartialEq;

@@ -1,6 +1,6 @@
 use borrow.Author.Needs.{needs}
 use Rattle.book.specs.Likeness.{likenessOf}
-use Rattle.book.proofs.likeness.likeness.Needs as need
+use Rattle.book.proofs.degrees.likeness.Needs as need
 
 pub returns-in-Some : need.returns-in-Some
 unfolding likenessOf
