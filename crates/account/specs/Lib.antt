@@ -3,3 +3,4 @@ pub mod Degrees
 pub mod Words
 pub mod Forms
 pub mod Laws
+pub mod Reports

@@ -3,9 +3,12 @@ mod degrees;
 mod forms;
 mod laws;
 mod names;
+mod report;
 mod words;
 
 pub use degrees::LinesTold;
 pub use degrees::MarkTold;
 pub use degrees::Told;
+pub use report::Report;
+pub use report::report_on;
 pub use words::account;
