@@ -4,8 +4,8 @@ use Prim.Native.Nat.{ℕ, _≤_}
 use native.Mathlib.Omega.{arith}
 use Rattle.book.specs.Laws.{Lawful}
 use Rattle.book.specs.Likeness.{wordsOf}
-use Rattle.book.specs.declared.book.LinesBook.{LinesBook}
-use Rattle.book.specs.declared.book.MarksBook.{MarksBook}
+use Rattle.book.specs.declared.lines_book.LinesBook.{LinesBook}
+use Rattle.book.specs.declared.marks_book.MarksBook.{MarksBook}
 use Rattle.layout.specs.Places.{countOf}
 use Rattle.layout.specs.declared.layout.Layout.{Layout}
 use Rattle.scale.proofs.Degrees.{lines-set, mark-set}

@@ -11,9 +11,6 @@ use Rattle.fault.proofs.Firsts.{first1-none, first1-only, first2-none, first2-o
 use Rattle.fault.specs.Firsts.{All2, All3, Below, First1, First2, First3}
 use Rattle.layout.specs.Places.{countOf}
 use Rattle.scale.specs.Scales.{Operations}
-use Rattle.std.specs.Results.{Cases}
-use Rattle.std.specs.declared.result.Result.{Result}
-use Rattle.std.specs.declared.result.Result.the-variants.{Ok, Err}
 
 -- The fault that a first pair makes.
 record At2 (n : ℕ) (P : ℕ → ℕ → Type 0) (make : ℕ → ℕ → LawFault) (f : LawFault) : Type 0 where
@@ -103,7 +100,3 @@ module _ {D : Type 0} (S : Operations D) (B : List ℕ) where
 
   pub lawful-none : (f : LawFault) → Lawful S B → Unlawful S B f → ⊥
   lawful-none f lawful bad = passes-none lawChecks f (passes lawful) (fails f bad)
-
-  pub laws-only : (r : Result (Unit {0}) LawFault) → Cases r (λ _. Lawful S B) (Unlawful S B) → Cases r (λ _. (f : LawFault) → Unlawful S B f → ⊥) (λ f. (g : LawFault) → Unlawful S B g → g ≡ f)
-  laws-only (Ok u) lawful = λ f bad. lawful-none f lawful bad
-  laws-only (Err f) bad = λ g other. unlawful-once g f other bad

@@ -4,14 +4,11 @@ use crate::fault::LawFault;
 use layout::Layout;
 use scale::Scale;
 use scale::at_most;
-ghost use Prim.Native.Nat.{ℕ};
 ghost use Rattle.book.specs.Laws.{Coded, Lawful, Reflexive, Symmetric, Transitive, Typed, Unlawful};
-ghost use Rattle.book.specs.declared.fault.LawFault.{LawFault};
 ghost use Rattle.fault.specs.Firsts.{All2, All3, Below, First1, First2, First3};
 ghost use Rattle.layout.specs.Places.{countOf};
 ghost use Rattle.std.specs.Options.{Cases as BySome};
 ghost use Rattle.std.specs.Results.{Cases};
-ghost use mathlib.Core.Path.{_≡_};
 
 /// The first two words for which the table's number is no degree.
 fn uncoded<S: Scale>(layout: &Layout) -> Option<(u8, u8)>
@@ -115,8 +112,8 @@ fn intransitivity<S: Scale>(layout: &Layout) -> Option<(u8, u8, u8)>
     None
 }
 
-/// Which law the table breaks first, and where.
-fn broken_law<S: Scale>(layout: &Layout) -> Result<(), LawFault>
+/// Refuses a table by the law that it breaks first.
+pub fn check_laws<S: Scale>(layout: &Layout) -> Result<(), LawFault>
     ensures { λ r. ⌜ Cases r
         (λ _. Lawful (S·Scale .operations) (now (now (layout .entry) .bytes)))
         (Unlawful (S·Scale .operations) (now (now (layout .entry) .bytes))) ⌝ }
@@ -137,16 +134,4 @@ fn broken_law<S: Scale>(layout: &Layout) -> Result<(), LawFault>
         return Err(LawFault::Transitivity(i, j, k));
     }
     Ok(())
-}
-
-/// Refuses a table by the law that it breaks first: no other fault fits.
-pub fn check_laws<S: Scale>(layout: &Layout) -> Result<(), LawFault>
-    ensures fits { λ r. ⌜ Cases r
-        (λ _. Lawful (S·Scale .operations) (now (now (layout .entry) .bytes)))
-        (Unlawful (S·Scale .operations) (now (now (layout .entry) .bytes))) ⌝ }
-    ensures only { λ r. ⌜ Cases r
-        (λ _. (f : LawFault) → Unlawful (S·Scale .operations) (now (now (layout .entry) .bytes)) f → ⊥)
-        (λ f. (g : LawFault) → Unlawful (S·Scale .operations) (now (now (layout .entry) .bytes)) g → g ≡ f) ⌝ }
-{
-    broken_law::<S>(layout)
 }

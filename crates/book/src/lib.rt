@@ -1,16 +1,11 @@
 // Books of likenesses: their laws, their check, and the books that passed it. It knows nothing of terms.
-mod book;
 mod checks;
 mod degrees;
 mod fault;
 mod laws;
+mod lines_book;
+mod marks_book;
 
-pub use book::LinesBook;
-pub use book::LinesLexicon;
-pub use book::LinesVocabulary;
-pub use book::MarksBook;
-pub use book::MarksLexicon;
-pub use book::MarksVocabulary;
 pub use checks::Kind;
 pub use checks::KindDebug;
 pub use checks::KindPartialEq;
@@ -24,3 +19,9 @@ pub use fault::LawCause;
 pub use fault::LawFault;
 pub use fault::LawFaultDebug;
 pub use fault::LawFaultPartialEq;
+pub use lines_book::LinesBook;
+pub use lines_book::LinesLexicon;
+pub use lines_book::LinesVocabulary;
+pub use marks_book::MarksBook;
+pub use marks_book::MarksLexicon;
+pub use marks_book::MarksVocabulary;

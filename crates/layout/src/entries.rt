@@ -103,7 +103,7 @@ pub fn spelling_in(bytes: &[u8], i: u8) -> Option<&[u8]>
     ensures { λ r. ⌜ mapped now r ≡ spellingIn (now (bytes .entry)) i ⌝ }
 {
     let mut at = 5;
-    for _k in 0..i {
+    for _word in 0..i {
         if at + 1 >= bytes.len() {
             return None;
         }

@@ -1,7 +1,9 @@
 // Degrees of likeness: what a scale is, and the two scales of the depot. It knows nothing of words.
 mod fault;
 mod lines;
+mod lines_scale;
 mod mark;
+mod mark_scale;
 mod offer;
 mod scale;
 
@@ -12,15 +14,15 @@ pub use fault::DegreeFaultPartialEq;
 pub use lines::Lines;
 pub use lines::LinesDebug;
 pub use lines::LinesPartialEq;
+pub use lines_scale::LinesCoded;
+pub use lines_scale::LinesScale;
 pub use mark::Mark;
 pub use mark::MarkDebug;
 pub use mark::MarkPartialEq;
+pub use mark_scale::MarkCoded;
+pub use mark_scale::MarkScale;
 pub use offer::at_most;
 pub use offer::degree_of;
 pub use offer::offered;
 pub use scale::Coded;
-pub use scale::LinesCoded;
-pub use scale::LinesScale;
-pub use scale::MarkCoded;
-pub use scale::MarkScale;
 pub use scale::Scale;

@@ -1,7 +1,4 @@
-use crate::lines::Lines;
-use crate::mark::Mark;
 ghost use Prim.Native.Nat.{ℕ};
-ghost use Rattle.scale.specs.Degrees.{lineOperations, markOperations};
 ghost use Rattle.scale.specs.Scales.{IsCode, IsScale, Operations};
 ghost use Rattle.std.specs.Orderings.{Decides};
 ghost use mathlib.Core.Path.{_≡_};
@@ -41,77 +38,4 @@ pub trait Coded: Scale {
     fn code(self) -> u16
         ensures value { λ r. ⌜ r ≡ number self ⌝ }
         ensures laws { λ _. ⌜ ((d : Self) → IsCode (Self·Scale .operations) d (number d)) ⌝ };
-}
-
-pub impl Scale for Mark as MarkScale {
-    ghost operations = { markOperations };
-
-    fn top() -> Mark {
-        Mark { value: 1000 }
-    }
-
-    fn bottom() -> Mark {
-        Mark { value: 0 }
-    }
-
-    /// The smaller mark.
-    fn meet(self, other: Mark) -> Mark {
-        Mark {
-            value: self.value.min(other.value),
-        }
-    }
-
-    fn same(self, other: Mark) -> bool {
-        self.value == other.value
-    }
-
-    fn from_code(code: u16) -> Option<Mark> {
-        if code > 1000 {
-            return None;
-        }
-        Some(Mark { value: code })
-    }
-}
-
-pub impl Coded for Mark as MarkCoded {
-    ghost number = { λ m. m .value };
-
-    fn code(self) -> u16 {
-        self.value
-    }
-}
-
-pub impl Scale for Lines as LinesScale {
-    ghost operations = { lineOperations };
-
-    fn top() -> Lines {
-        Lines { set: 65535 }
-    }
-
-    fn bottom() -> Lines {
-        Lines { set: 0 }
-    }
-
-    /// The lines in both sets.
-    fn meet(self, other: Lines) -> Lines {
-        Lines {
-            set: self.set & other.set,
-        }
-    }
-
-    fn same(self, other: Lines) -> bool {
-        self.set == other.set
-    }
-
-    fn from_code(code: u16) -> Option<Lines> {
-        Some(Lines { set: code })
-    }
-}
-
-pub impl Coded for Lines as LinesCoded {
-    ghost number = { λ l. l .set };
-
-    fn code(self) -> u16 {
-        self.set
-    }
 }

@@ -1,0 +1,6 @@
+use mathlib.Core.Path.{refl}
+use Rattle.scale.proofs.Degrees.{same-mark}
+use Rattle.scale.proofs.mark_scale.MarkScale.bottom.Needs as need
+
+pub returns : need.returns
+returns c = same-mark _ _ refl

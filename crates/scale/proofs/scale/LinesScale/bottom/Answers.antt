@@ -1,6 +1,0 @@
-use mathlib.Core.Path.{refl}
-use Rattle.scale.proofs.Degrees.{same-lines}
-use Rattle.scale.proofs.scale.LinesScale.bottom.Needs as need
-
-pub returns : need.returns
-returns c = same-lines _ _ refl

@@ -1,0 +1,39 @@
+use crate::lines::Lines;
+use crate::scale::Coded;
+use crate::scale::Scale;
+ghost use Rattle.scale.specs.Degrees.{lineOperations};
+
+pub impl Scale for Lines as LinesScale {
+    ghost operations = { lineOperations };
+
+    fn top() -> Lines {
+        Lines { set: 65535 }
+    }
+
+    fn bottom() -> Lines {
+        Lines { set: 0 }
+    }
+
+    /// The lines in both sets.
+    fn meet(self, other: Lines) -> Lines {
+        Lines {
+            set: self.set & other.set,
+        }
+    }
+
+    fn same(self, other: Lines) -> bool {
+        other.set == self.set
+    }
+
+    fn from_code(code: u16) -> Option<Lines> {
+        Some(Lines { set: code })
+    }
+}
+
+pub impl Coded for Lines as LinesCoded {
+    ghost number = { λ l. l .set };
+
+    fn code(self) -> u16 {
+        self.set
+    }
+}
