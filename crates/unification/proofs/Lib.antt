@@ -1,0 +1,6 @@
+pub mod Orders
+pub mod Similarity
+pub mod Classes
+pub mod Reading
+pub mod Unifiers
+pub mod Heights

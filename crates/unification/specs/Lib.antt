@@ -1,1 +1,7 @@
 pub mod Terms
+pub mod Substitutions
+pub mod Similarity
+pub mod Classes
+pub mod Sheets
+pub mod Closures
+pub mod Solutions
