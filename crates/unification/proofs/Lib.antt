@@ -4,3 +4,6 @@ pub mod Classes
 pub mod Reading
 pub mod Unifiers
 pub mod Heights
+pub mod Solving
+pub mod Cycles
+pub mod Values

@@ -5,3 +5,4 @@ pub mod Classes
 pub mod Sheets
 pub mod Closures
 pub mod Solutions
+pub mod Tables
