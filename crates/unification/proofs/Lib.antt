@@ -7,3 +7,6 @@ pub mod Heights
 pub mod Solving
 pub mod Cycles
 pub mod Values
+pub mod Tables
+pub mod Crisp
+pub mod Searches
