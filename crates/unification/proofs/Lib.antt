@@ -10,3 +10,5 @@ pub mod Values
 pub mod Tables
 pub mod Crisp
 pub mod Searches
+pub mod Numberings
+pub mod Depths

@@ -44,7 +44,7 @@ find-label (r ∷ l) x = go (is-label r x) (find-label l x)
         at zero e = n (cc)
         at (suc p) e = m (p, e)
 
-row-kind : (r : Row) → kind (some r) ≤ 1
+pub row-kind : (r : Row) → kind (some r) ≤ 1
 row-kind (variable x) = omega arith
 row-kind (composed f xs) = omega arith
 
