@@ -12,3 +12,6 @@ pub mod Crisp
 pub mod Searches
 pub mod Numberings
 pub mod Depths
+pub mod Orderings
+pub mod Main
+pub mod EightWords

@@ -6,3 +6,5 @@ pub mod Sheets
 pub mod Closures
 pub mod Solutions
 pub mod Tables
+pub mod Theorems
+pub mod EightWords
