@@ -8,8 +8,7 @@ use Prim.Native.Nat.{ℕ, zero, suc, _<_, _≤_}
 use native.Mathlib.Decide.{ℕ-discrete}
 use native.Mathlib.Omega.{arith}
 use lib.ListN.{length, getD, getElem?}
-use Rattle.std.proofs.shelf.Tests.{cases-eq, cases-lt}
-use Rattle.fault.specs.Firsts.{Below}
+use Rattle.std.proofs.shelf.Tests.{cases-eq}
 use Rattle.unification.specs.Closures.{Closure, stated, same, turned, joined, passed, Above, Descent, step, more, Cycle, IsDepth}
 use Rattle.unification.specs.Sheets.{Row, variable, composed, Sheet, At, IsSheet}
 use Rattle.unification.proofs.Cycles.{depth-no-cycle}
@@ -31,7 +30,7 @@ reached (onto a w) (suc i) = reached w i
 
 module _ {count : ℕ} {arity : ℕ → ℕ} {s : Sheet} (I : IsSheet count arity s) where
   -- A row is in the closure with rows alone.
-  closure-rows : {p q : ℕ} → Closure s p q → (p < length (s .rows) → q < length (s .rows)) × (q < length (s .rows) → p < length (s .rows))
+  pub closure-rows : {p q : ℕ} → Closure s p q → (p < length (s .rows) → q < length (s .rows)) × (q < length (s .rows) → p < length (s .rows))
   closure-rows (stated e h) = let w = I .within e h in (λ b. w .1, λ b. w .0)
   closure-rows (same p) = (λ b. b, λ b. b)
   closure-rows (turned c) = let w = closure-rows c in (w .1, w .0)
@@ -40,9 +39,10 @@ module _ {count : ℕ} {arity : ℕ → ℕ} {s : Sheet} (I : IsSheet count arit
       (λ k. args-within I b g ys hq i (omega arith), λ k. args-within I a f xs hp i hi)
 
   above-rows : {p q : ℕ} → Above s p q → (p < length (s .rows)) × (q < length (s .rows))
-  above-rows a =
-      (closure-rows (a .together) .1 (at-within (s .rows) (a .row) (composed (a .word) (a .args)) (a .is)),
-      closure-rows (a .below) .0 (args-within I (a .row) (a .word) (a .args) (a .is) (a .place) (a .in-args)))
+  above-rows a = (
+    closure-rows (a .together) .1 (at-within (s .rows) (a .row) (composed (a .word) (a .args)) (a .is)),
+    closure-rows (a .below) .0 (args-within I (a .row) (a .word) (a .args) (a .is) (a .place) (a .in-args)),
+  )
 
   -- Whether row p is above q, through an argument of row r, or of any row.
   abbrev Through : ℕ → ℕ → ℕ → Type 0
@@ -59,19 +59,19 @@ module _ {count : ℕ} {arity : ℕ → ℕ} {s : Sheet} (I : IsSheet count arit
           elim (first-below (λ i. Closure s (getD xs i 0) q) (λ i. closure? I (getD xs i 0) q) (length xs)) [
             | inl m ↦ yes (f, xs, m .0, c, e, m .1, m .2)
             | inr n ↦ no (λ t.
-              let k = t .4 in
-              let x : t .1 ≡ xs = cc in
-              n (t .2) (subst (λ (l : List ℕ). t .2 < length l) x (t .5)) (subst (λ (l : List ℕ). Closure s (getD l (t .2) 0) q) x (t .6)))
+                let k = t .4 in
+                let x : t .1 ≡ xs = cc in
+                n (t .2) (subst (λ (l : List ℕ). t .2 < length l) x (t .5)) (subst (λ (l : List ℕ). Closure s (getD l (t .2) 0) q) x (t .6)))
           ]
 
   above? : (p q : ℕ) → Dec (Above s p q)
   above? p q =
       elim (first-below (Through p q) (through? p q) (length (s .rows))) [
         | inl m ↦ let t = m .2 in
-          yes (record { row = m .0; word = t .0; args = t .1; place = t .2; together = t .3; is = t .4; in-args = t .5; below = t .6 })
+            yes (record { row = m .0; word = t .0; args = t .1; place = t .2; together = t .3; is = t .4; in-args = t .5; below = t .6 })
         | inr n ↦ no (λ a.
-          n (a .row) (at-within (s .rows) (a .row) (composed (a .word) (a .args)) (a .is))
-          (a .word, a .args, a .place, a .together, a .is, a .in-args, a .below))
+            n (a .row) (at-within (s .rows) (a .row) (composed (a .word) (a .args)) (a .is))
+            (a .word, a .args, a .place, a .together, a .is, a .in-args, a .below))
       ]
 
   -- A walk of as many steps as there are rows comes to a row twice.
@@ -161,12 +161,15 @@ module _ {count : ℕ} {arity : ℕ → ℕ} {s : Sheet} (I : IsSheet count arit
   depth-or-cycle =
       elim (first-below (λ p. far (length (s .rows)) p ≡ length (s .rows)) (λ p. ℕ-discrete (far (length (s .rows)) p) (length (s .rows))) (length (s .rows))) [
         | inl m ↦ inr (walk-cycle (m .1) (far-walk (length (s .rows)) (m .0) (m .2)))
-        | inr n ↦ inl (far (length (s .rows)), λ p q a.
-          let b = far-above (length (s .rows)) a in
-          let c = far-le (length (s .rows)) p in
-          let d = n p (above-rows a .0) in
-          let e = far-same (length (s .rows)) p (omega arith) in
-          omega arith)
+        | inr n ↦ inl (
+          far (length (s .rows)),
+          λ p q a.
+              let b = far-above (length (s .rows)) a in
+              let c = far-le (length (s .rows)) p in
+              let d = n p (above-rows a .0) in
+              let e = far-same (length (s .rows)) p (omega arith) in
+              omega arith,
+        )
       ]
 
   pub depth-of : ¬ Cycle s → (depth : ℕ → ℕ) × IsDepth s depth

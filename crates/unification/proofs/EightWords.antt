@@ -1,11 +1,11 @@
 -- The eight words keep the laws of a vocabulary: each law is one computed test over the table.
-use mathlib.Core.Bool.{Bool, true, false, cond, not, _&&_, _||_}
+use mathlib.Core.Bool.{Bool, true, _&&_, _||_}
 use mathlib.Core.Logic.{_⊎_, inl, inr}
 use mathlib.Core.Path.{_≡_, refl, sym, ap, _∙_}
 use Prim.Native.Nat.{ℕ, zero, suc, _<_, _≤_, min}
 use native.Mathlib.Omega.{arith}
-use lib.Dec.{ltb, leb, eqb}
-use Rattle.std.proofs.shelf.Tests.{cases-eq, cases-lt, and-parts, eqb-true, leb-true, le-ltb, lt-ltb, or-cases, ne-eqb, both-ways, not-true}
+use lib.Dec.{leb, eqb}
+use Rattle.std.proofs.shelf.Tests.{cases-eq, cases-lt, and-parts, eqb-true, leb-true, le-ltb, lt-ltb, or-cases}
 use Rattle.fault.specs.Firsts.{Below}
 use Rattle.scale.proofs.Degrees.{same-mark}
 use Rattle.scale.proofs.Laws.{mark-laws}

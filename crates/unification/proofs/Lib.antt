@@ -15,3 +15,4 @@ pub mod Depths
 pub mod Orderings
 pub mod Main
 pub mod EightWords
+pub mod Bridges

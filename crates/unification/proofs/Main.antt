@@ -1,17 +1,16 @@
 -- The theorems, for every scale and vocabulary that keep their laws.
-use mathlib.Core.Logic.{_⊎_, inl, inr}
-use mathlib.Core.Path.{_≡_, refl, sym, ap, _∙_, subst}
-use Prim.Native.Nat.{ℕ, _<_}
+use mathlib.Core.Logic.{inl, inr}
+use mathlib.Core.Path.{_≡_, sym, _∙_, subst}
+use Prim.Native.Nat.{ℕ}
 use lib.ListN.{length}
 use Rattle.scale.specs.Scales.{Operations, IsScale}
 use Rattle.vocabulary.specs.Words.{Words, IsVocabulary}
-use Rattle.unification.specs.Closures.{Closure, same, Cycle, Representative, IsDegree, Clash, Occurs}
-use Rattle.unification.specs.Sheets.{Equation, Sheet, IsSheet, equated, suits}
-use Rattle.unification.specs.Similarity.{Crisp}
-use Rattle.unification.specs.Solutions.{IsSolution, IsBest}
+use Rattle.unification.specs.Closures.{same, IsDegree}
+use Rattle.unification.specs.Sheets.{Sheet, IsSheet, equated}
+use Rattle.unification.specs.Solutions.{IsBest}
 use Rattle.unification.specs.Tables.{IsSolvedBy, IsSolutionBy, gathered}
 use Rattle.unification.specs.Terms.{Term}
-use Rattle.unification.specs.Theorems.{SheetHas, SheetsHave, SolvedBest, SolutionsAreBest, PossibleWhen, PossibleExactly, EquationPossible, EquationsPossible, UnifiedWhen, CrispUnifies, WeakUnification}
+use Rattle.unification.specs.Theorems.{SheetsHave, SolutionsAreBest, PossibleExactly, EquationsPossible, CrispUnifies, WeakUnification}
 use Rattle.unification.proofs.Classes.{class-degrees}
 use Rattle.unification.proofs.Crisp.{best-most-general, unifies-suits}
 use Rattle.unification.proofs.Cycles.{cycle-bottom, no-cycle, degree-above, depth-no-cycle}

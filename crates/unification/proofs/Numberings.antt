@@ -81,10 +81,10 @@ module _ {count : ℕ} {arity : ℕ → ℕ} {s : Sheet} (I : IsSheet count arit
             elim (args-agree p q f g xs ys e hp hq hl) [
               | inl a ↦ inl a
               | inr b ↦ inr (λ f′ g′ xs′ ys′ e′ hp′ hq′ hl′ i hi′.
-                let x : xs ≡ xs′ = cc in
-                let y : ys ≡ ys′ = cc in
-                let z : length xs ≡ length xs′ = ap length x in
-                ap (λ (l : List ℕ). class (getD l i 0)) (sym x) ∙ b i (omega arith) ∙ ap (λ (l : List ℕ). class (getD l i 0)) y)
+                  let x : xs ≡ xs′ = cc in
+                  let y : ys ≡ ys′ = cc in
+                  let z : length xs ≡ length xs′ = ap length x in
+                  ap (λ (l : List ℕ). class (getD l i 0)) (sym x) ∙ b i (omega arith) ∙ ap (λ (l : List ℕ). class (getD l i 0)) y)
             ]
         lengths f g xs ys hp hq e (inr n) =
             inr (λ f′ g′ xs′ ys′ e′ hp′ hq′ hl′ i hi.
@@ -144,8 +144,8 @@ module _ {count : ℕ} {arity : ℕ → ℕ} {s : Sheet} (I : IsSheet count arit
   closed-from (suc k) class h b =
       elim (apart-or-closed class h) [
         | inl a ↦
-          let f = sum-lt (length (s .rows)) (merged class (a .0) (a .1)) class (λ p hp. merged-le class (a .0) (a .1) (a .4) p) (a .0) (a .2) (merged-lt class (a .0) (a .1) (a .4)) in
-          closed-from k (merged class (a .0) (a .1)) (merged-sound class h (a .0) (a .1) (a .3)) (omega arith)
+            let f = sum-lt (length (s .rows)) (merged class (a .0) (a .1)) class (λ p hp. merged-le class (a .0) (a .1) (a .4) p) (a .0) (a .2) (merged-lt class (a .0) (a .1) (a .4)) in
+            closed-from k (merged class (a .0) (a .1)) (merged-sound class h (a .0) (a .1) (a .3)) (omega arith)
         | inr c ↦ (class, h, c)
       ]
 

@@ -1,9 +1,8 @@
 -- Searches among the numbers below a bound, sums and greatest values over them, and the pigeonhole.
 use mathlib.Core.Bool.{cond}
 use mathlib.Core.Logic.{_⊎_, inl, inr}
-use mathlib.Core.Path.{_≡_, refl, sym, ap, ap₂, _∙_}
+use mathlib.Core.Path.{_≡_, refl, sym, ap₂, _∙_}
 use Prim.Native.Nat.{ℕ, zero, suc, _+_, _<_, _≤_, max}
-use native.Mathlib.Decide.{ℕ-discrete}
 use native.Mathlib.Omega.{arith}
 use lib.Dec.{eqb}
 use Rattle.std.proofs.shelf.Tests.{cases-eq, eq-eqb, ne-eqb}
@@ -82,8 +81,8 @@ greatest-found (suc n) f h =
     elim (cases-eq (f n) (greatest (suc n) f)) [
       | inl e ↦ (n, omega arith, e)
       | inr m ↦
-        let a : greatest n f ≡ greatest (suc n) f = omega arith in
-        let b = greatest-found n f (omega arith) in let c = b .1 in (b .0, omega arith, b .2 ∙ a)
+          let a : greatest n f ≡ greatest (suc n) f = omega arith in
+          let b = greatest-found n f (omega arith) in let c = b .1 in (b .0, omega arith, b .2 ∙ a)
     ]
 
 -- The value n gives way to another.
@@ -113,9 +112,9 @@ pigeonhole (suc n) f h =
     elim (search-below (λ i. f i ≡ f (suc n)) (λ i. f i ≡ f (suc n) → ⊥) (suc n) (λ i l. cases-eq (f i) (f (suc n)))) [
       | inl m ↦ (m .0, suc n, m .1, omega arith, m .2)
       | inr other ↦
-        let last = h (suc n) (omega arith) in
-        let r = pigeonhole n (λ i. moved n (f (suc n)) (f i)) (λ i l. let a = h i (omega arith) in moved-less n (f (suc n)) (f i) (omega arith) (omega arith) (other i l)) in
-        let a = r .2 in
-        let b = r .3 in
-        (r .0, r .1, r .2, omega arith, moved-same n (f (suc n)) (f (r .0)) (f (r .1)) (other (r .0) (omega arith)) (other (r .1) (omega arith)) (r .4))
+          let last = h (suc n) (omega arith) in
+          let r = pigeonhole n (λ i. moved n (f (suc n)) (f i)) (λ i l. let a = h i (omega arith) in moved-less n (f (suc n)) (f i) (omega arith) (omega arith) (other i l)) in
+          let a = r .2 in
+          let b = r .3 in
+          (r .0, r .1, r .2, omega arith, moved-same n (f (suc n)) (f (r .0)) (f (r .1)) (other (r .0) (omega arith)) (other (r .1) (omega arith)) (r .4))
     ]

@@ -6,10 +6,9 @@ use Prim.Native.Nat.{ℕ, zero, suc, _<_, _≤_}
 use native.Mathlib.Decide.{ℕ-discrete}
 use native.Mathlib.Omega.{arith}
 use lib.ListN.{length, getD, getElem?}
-use Rattle.fault.specs.Firsts.{Below}
 use Rattle.scale.specs.Scales.{Operations, IsScale, AtMost}
 use Rattle.vocabulary.specs.Words.{Words, IsVocabulary}
-use Rattle.unification.specs.Closures.{Closure, stated, same, turned, joined, passed, IsDepth, kind, Representative, Bound, IsDegree}
+use Rattle.unification.specs.Closures.{Closure, stated, same, turned, joined, passed, kind, Representative, Bound, IsDegree}
 use Rattle.unification.specs.Sheets.{Row, variable, composed, Sheet, At}
 use Rattle.unification.specs.Tables.{IsClosed, IsStar, Represents, rowsAlike, gathered}
 use Rattle.unification.proofs.Orders.{le-trans, le-of-eq, le-top, meet-glb, meet-left, meet-right}
@@ -32,23 +31,6 @@ star-closed {class = class} {chief = chief} C =
       args = λ p q f g xs ys e hp hq hl i hi.
           C .args p f xs hp i hi ∙ ap (λ c. class (getD (chief c) i 0)) e ∙ sym (C .args q g ys hq i (omega arith));
     }
-
--- Representatives from a closed numbering of classes by their first row.
-pub represents-from : {s : Sheet} {of : ℕ → ℕ} → IsClosed s of → Below (length (s .rows)) (λ p. Closure s p (of p)) → ((r : ℕ) → kind (getElem? (s .rows) (of r)) ≤ kind (getElem? (s .rows) r)) → ((r : ℕ) → kind (getElem? (s .rows) (of r)) ≡ kind (getElem? (s .rows) r) → of r ≤ r) → Represents s of
-represents-from {s} {of} C h k l p hp =
-    record {
-      together = h p hp;
-      kindest = λ r c. rw (closed-closure C c) (k r);
-      lowest = λ r c. rw (closed-closure C c) (l r);
-    }
-
--- A depth of the classes under which every composed row is above its arguments.
-pub depth-from : {s : Sheet} {depth : ℕ → ℕ} → ((p q : ℕ) → Closure s p q → depth p ≡ depth q) → ((p f : ℕ) (xs : List ℕ) → At s p (composed f xs) → Below (length xs) (λ i. depth (getD xs i 0) < depth p)) → IsDepth s depth
-depth-from {s} {depth} h k p q a =
-    let x = h p (a .row) (a .together) in
-    let y = k (a .row) (a .word) (a .args) (a .is) (a .place) (a .in-args) in
-    let z = h (getD (a .args) (a .place) 0) q (a .below) in
-    omega arith
 
 -- A composed row's representative is composed.
 pub representative-word : {s : Sheet} {p q f : ℕ} {xs : List ℕ} → Representative s q p → At s p (composed f xs) → (g : ℕ) × (ys : List ℕ) × At s q (composed g ys)

@@ -1,6 +1,6 @@
 -- What a substitution that suits a sheet's equations forces.
 use mathlib.Core.List.{List, [], _∷_, List·Memᴰ·head, List·Memᴰ·tail}
-use mathlib.Core.Path.{_≡_, refl, sym, subst₂}
+use mathlib.Core.Path.{refl, subst₂}
 use Prim.Native.Nat.{ℕ}
 use Rattle.scale.specs.Scales.{Operations, IsScale, AtMost}
 use Rattle.vocabulary.specs.Words.{Words, IsVocabulary}

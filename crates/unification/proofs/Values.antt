@@ -11,7 +11,7 @@ use Rattle.unification.specs.Sheets.{Row, variable, composed, Sheet, At, IsShe
 use Rattle.unification.specs.Solutions.{Solved, free, built, AllSolved, none as none-solved, each, IsSolution}
 use Rattle.unification.specs.Substitutions.{apply}
 use Rattle.unification.specs.Tables.{Represents, IsSolvedBy, IsSolutionBy}
-use Rattle.unification.specs.Terms.{Term, Terms, var, app, nil, cons}
+use Rattle.unification.specs.Terms.{Term, Terms, var, app, cons}
 use Rattle.unification.proofs.Heights.{height}
 use Rattle.unification.proofs.Reading.{at-within, terms-same, apply-terms}
 use Rattle.unification.proofs.Solving.{find-label, args-within, one-representative, one-value, representative-row, value-variable, value-composed, lower-value}

@@ -1,6 +1,6 @@
 use mathlib.Core.List.{List, [], _∷_, _++_, List·Memᴰ}
 use mathlib.Core.Path.{_≡_}
-use Prim.Native.Nat.{ℕ, _<_}
+use Prim.Native.Nat.{ℕ}
 use Rattle.scale.specs.Scales.{Operations, AtMost}
 use Rattle.vocabulary.specs.Words.{Words}
 

@@ -34,6 +34,14 @@ At s p r = getElem? (s .rows) p ≡ some r
 abbrev pub Holds : Sheet → Equation → Type 0
 Holds s e = Member e (s .equations)
 
+-- A fresh sheet: no rows and no equations.
+abbrev pub fresh : Sheet
+fresh = record { rows = []; equations = [] }
+
+-- The sheet with one more row, after the last.
+abbrev pub appended : Sheet → Row → Sheet
+appended s r = record { rows = s .rows ++ (r ∷ []); equations = s .equations }
+
 -- The sheet with one more equation, at the end.
 abbrev pub equated : Sheet → Equation → Sheet
 equated s e = record { rows = s .rows; equations = s .equations ++ (e ∷ []) }
@@ -48,6 +56,11 @@ pub record IsSheet (count : ℕ) (arity : ℕ → ℕ) (s : Sheet) : Type 0 wher
   pub lower : (p f : ℕ) (xs : List ℕ) → At s p (composed f xs) → Below (length xs) (λ i. getD xs i 0 < p)
   -- both sides of an equation are rows
   pub within : (e : Equation) → Holds s e → (e .left < length (s .rows)) × (e .right < length (s .rows))
+
+-- A row that a well-formed sheet may get: a label of 0 to 99 that has no row yet, or a word with as many of the rows as its arity.
+abbrev pub Fits : ℕ → (ℕ → ℕ) → Sheet → Row → Type 0
+Fits count arity s (variable x) = (x < 100) × ((p : ℕ) → At s p (variable x) → ⊥)
+Fits count arity s (composed f xs) = (f < count) × (length xs ≡ arity f) × Below (length xs) (λ i. getD xs i 0 < length (s .rows))
 
 -- The terms of some rows, where `of` gives the term of each.
 abbrev pub termsOf : (ℕ → Term) → List ℕ → Terms

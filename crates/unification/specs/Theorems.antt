@@ -9,7 +9,7 @@ use Rattle.unification.specs.Classes.{ClassDegrees}
 use Rattle.unification.specs.Closures.{Cycle, IsDepth, Representative, IsDegree, Clash, Occurs}
 use Rattle.unification.specs.Sheets.{Equation, Sheet, IsSheet, TermsRead, Holds, equated, suits, Unifies}
 use Rattle.unification.specs.Similarity.{IsSimilarity, Crisp}
-use Rattle.unification.specs.Solutions.{IsSolution, IsBest, Possible, IsMostGeneral}
+use Rattle.unification.specs.Solutions.{Solved, IsSolution, IsBest, Possible, IsMostGeneral}
 use Rattle.unification.specs.Substitutions.{IsSubstitution}
 use Rattle.unification.specs.Terms.{Term}
 
@@ -65,10 +65,12 @@ module _ {D : Type 0} (S : Operations D) (V : Words D) where
   abbrev pub CrispUnifies : Type 0
   CrispUnifies = Crisp S V → (s : Sheet) → IsSheet (V .count) (V .arity) s → (d : D) → IsDegree S V s d → UnifiedWhen s d
 
-  -- The order of the equations, and how often each stands, is of no account: over the same rows the same equations have the same degree
-  -- and the same solved substitution.
+  -- The order of the equations, and how often each stands, is of no account: over the same rows the same equations give the same degree,
+  -- representatives, solved values and solved substitution.
   pub record SameMatch (s t : Sheet) : Type 0 where
     pub degree : (d : D) → IsDegree S V s d → IsDegree S V t d
+    pub representative : (p q : ℕ) → Representative s q p → Representative t q p
+    pub value : (p : ℕ) (u : Term) → Solved s p u → Solved t p u
     pub solution : (σ : ℕ → Term) → IsSolution s σ → IsSolution t σ
     pub cycle : Cycle s → Cycle t
 

@@ -7,5 +7,4 @@ ghost use Rattle.vocabulary.specs.Words.{IsVocabulary};
 pub fn eight_words_match()
     ensures lawful { λ _. ⌜ IsVocabulary markOperations eightWords ⌝ }
     ensures theorems { λ _. ⌜ WeakUnification markOperations eightWords ⌝ }
-{
-}
+{}
