@@ -7,12 +7,15 @@ use Prim.Native.Nat.{ℕ, zero, suc, _<_, _≤_}
 use native.Mathlib.Omega.{arith}
 use lib.ListN.{length, getD, getElem?, length-append}
 use Rattle.fault.specs.Firsts.{Below}
+use Rattle.scale.specs.Scales.{Operations, IsScale}
+use Rattle.vocabulary.specs.Words.{Words, IsVocabulary}
 use Rattle.unification.specs.Classes.{Member}
-use Rattle.unification.specs.Closures.{Closure, IsDepth, kind}
+use Rattle.unification.specs.Closures.{Closure, IsDepth, kind, IsDegree}
 use Rattle.unification.specs.Sheets.{Row, variable, composed, Equation, Sheet, At, fresh, appended, equated, IsSheet, Fits}
 use Rattle.unification.specs.Tables.{IsClosed, Represents}
 use Rattle.unification.proofs.Depths.{closure-rows}
 use Rattle.unification.proofs.Numberings.{at-hand}
+use Rattle.unification.proofs.Orders.{le-trans, bottom-le, le-of-eq}
 use Rattle.unification.proofs.Tables.{closed-closure}
 
 -- What stands at a position is a member, and a member stands at one.
@@ -110,3 +113,18 @@ module _ {count : ℕ} {arity : ℕ → ℕ} where
       one p q x (inl a) (inr b) = absurd (new-free r F x (b .1) p a)
       one p q x (inr a) (inl b) = absurd (new-free r F x (a .1) q b)
       one p q x (inr a) (inr b) = a .0 ∙ sym (b .0)
+
+module _ {D : Type 0} {S : Operations D} (L : IsScale S) {V : Words D} (W : IsVocabulary S V) {s : Sheet} where
+  -- Two words in the closure that are not alike at all make the degree bottom; so do two with different numbers of arguments.
+  pub unlike-bottom : {p q f g : ℕ} {xs ys : List ℕ} → Closure s p q → At s p (composed f xs) → At s q (composed g ys) → V .likeness f g ≡ S .bottom → IsDegree S V s (S .bottom)
+  unlike-bottom {p} {q} {f} {g} {xs} {ys} c hp hq e =
+      record {
+        bound = λ a b h k us vs d ha hb. bottom-le L (V .likeness h k);
+        greatest = λ d b. le-trans L (b p q f g xs ys c hp hq) (le-of-eq L e);
+      }
+
+  pub untyped-bottom : IsSheet (V .count) (V .arity) s → {p q f g : ℕ} {xs ys : List ℕ} → Closure s p q → At s p (composed f xs) → At s q (composed g ys) → (length xs ≡ length ys → ⊥) → IsDegree S V s (S .bottom)
+  untyped-bottom I {p} {q} {f} {g} {xs} {ys} c hp hq n =
+      let a = I .word p f xs hp in
+      let b = I .word q g ys hq in
+      unlike-bottom c hp hq (W .typed f (a .0) g (b .0) (λ e. n (a .1 ∙ e ∙ sym (b .1))))
