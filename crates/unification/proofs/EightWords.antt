@@ -1,11 +1,11 @@
 -- The eight words keep the laws of a vocabulary: each law is one computed test over the table.
-use mathlib.Core.Bool.{Bool, true, _&&_, _||_}
+use mathlib.Core.Bool.{true, _||_}
 use mathlib.Core.Logic.{_⊎_, inl, inr}
 use mathlib.Core.Path.{_≡_, refl, sym, ap, _∙_}
-use Prim.Native.Nat.{ℕ, zero, suc, _<_, _≤_, min}
+use Prim.Native.Nat.{ℕ, _<_, _≤_, min}
 use native.Mathlib.Omega.{arith}
 use lib.Dec.{leb, eqb}
-use Rattle.std.proofs.shelf.Tests.{cases-eq, cases-lt, and-parts, eqb-true, leb-true, le-ltb, lt-ltb, or-cases}
+use Rattle.std.proofs.shelf.Tests.{cases-lt, eqb-true, leb-true, le-ltb, lt-ltb, or-cases}
 use Rattle.fault.specs.Firsts.{Below}
 use Rattle.scale.proofs.Degrees.{same-mark}
 use Rattle.scale.proofs.Laws.{mark-laws}
@@ -14,20 +14,7 @@ use Rattle.vocabulary.specs.Words.{IsVocabulary}
 use Rattle.unification.specs.EightWords.{eightMark, eightWords}
 use Rattle.unification.specs.Theorems.{WeakUnification}
 use Rattle.unification.proofs.Main.{weak-unification}
-
--- Whether a test holds of every number below n.
-abbrev every : ℕ → (ℕ → Bool) → Bool
-every zero t = true
-every (suc n) t = t n && every n t
-
-every-below : (n : ℕ) (t : ℕ → Bool) → every n t ≡ true → Below n (λ k. t k ≡ true)
-every-below zero t e k l = absurd (omega arith)
-every-below (suc n) t e k l =
-    let p = and-parts (t n) (every n t) e in
-    elim (cases-eq k n) [
-      | inl q ↦ rw q (p .0)
-      | inr m ↦ every-below n t (p .1) k (omega arith)
-    ]
+use Rattle.unification.proofs.Searches.{every, every-below}
 
 -- A number that is no word has the entry 0, on either side.
 outside-left : (f g : ℕ) → 8 ≤ f → eightMark f g ≡ 0

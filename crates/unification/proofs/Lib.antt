@@ -16,3 +16,5 @@ pub mod Orderings
 pub mod Main
 pub mod EightWords
 pub mod Bridges
+pub mod Tested
+pub mod Examples

@@ -1,11 +1,11 @@
 -- Searches among the numbers below a bound, sums and greatest values over them, and the pigeonhole.
-use mathlib.Core.Bool.{cond}
+use mathlib.Core.Bool.{Bool, true, cond, _&&_}
 use mathlib.Core.Logic.{_⊎_, inl, inr}
 use mathlib.Core.Path.{_≡_, refl, sym, ap₂, _∙_}
 use Prim.Native.Nat.{ℕ, zero, suc, _+_, _<_, _≤_, max}
 use native.Mathlib.Omega.{arith}
 use lib.Dec.{eqb}
-use Rattle.std.proofs.shelf.Tests.{cases-eq, eq-eqb, ne-eqb}
+use Rattle.std.proofs.shelf.Tests.{and-parts, cases-eq, eq-eqb, ne-eqb}
 use Rattle.fault.specs.Firsts.{Below}
 
 -- What holds below k and of k holds below the next.
@@ -35,6 +35,20 @@ first-below P d (suc n) = go (first-below P d n) (d n)
     go (inl m) e = let b = m .1 in inl (m .0, omega arith, m .2, m .3)
     go (inr b) (yes e) = inl (n, omega arith, e, b)
     go (inr b) (no e) = inr (below-suc (λ i. ¬ P i) n b e)
+
+-- Whether a test holds of every number below n.
+abbrev pub every : ℕ → (ℕ → Bool) → Bool
+every zero t = true
+every (suc n) t = t n && every n t
+
+pub every-below : (n : ℕ) (t : ℕ → Bool) → every n t ≡ true → Below n (λ k. t k ≡ true)
+every-below zero t e k l = absurd (omega arith)
+every-below (suc n) t e k l =
+    let p = and-parts (t n) (every n t) e in
+    elim (cases-eq k n) [
+      | inl q ↦ rw q (p .0)
+      | inr m ↦ every-below n t (p .1) k (omega arith)
+    ]
 
 -- The sum of f below n, which falls with f.
 abbrev pub sum : ℕ → (ℕ → ℕ) → ℕ

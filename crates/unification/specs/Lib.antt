@@ -8,3 +8,4 @@ pub mod Solutions
 pub mod Tables
 pub mod Theorems
 pub mod EightWords
+pub mod Examples

@@ -3,6 +3,7 @@ mod eight_words;
 mod theorems;
 
 pub use eight_words::eight_words_match;
+pub use eight_words::worked_examples_hold;
 pub use theorems::classes_have_degrees;
 pub use theorems::crisp_words_unify;
 pub use theorems::equations_are_possible;
