@@ -2,7 +2,7 @@
 use mathlib.Core.List.{List, [], _∷_, _++_, List·Memᴰ·head, List·Memᴰ·tail, List·Memᴰ·append-cases, List·Memᴰ·eq-of-singleton}
 use mathlib.Core.Logic.{_⊎_, inl, inr}
 use mathlib.Core.Option.{some}
-use mathlib.Core.Path.{_≡_, refl, sym, ap, _∙_}
+use mathlib.Core.Path.{_≡_, refl, sym, ap, _∙_, subst}
 use Prim.Native.Nat.{ℕ, zero, suc, _<_, _≤_}
 use native.Mathlib.Omega.{arith}
 use lib.ListN.{length, getD, getElem?, length-append}
@@ -11,7 +11,7 @@ use Rattle.scale.specs.Scales.{Operations, IsScale}
 use Rattle.vocabulary.specs.Words.{Words, IsVocabulary}
 use Rattle.unification.specs.Classes.{Member}
 use Rattle.unification.specs.Closures.{Closure, IsDepth, kind, IsDegree}
-use Rattle.unification.specs.Sheets.{Row, variable, composed, Equation, Sheet, At, fresh, appended, equated, IsSheet, Fits}
+use Rattle.unification.specs.Sheets.{Row, variable, composed, Equation, Sheet, At, fresh, appended, equated, IsCoherent, IsSheet, IsTyped, Fits}
 use Rattle.unification.specs.Tables.{IsClosed, Represents}
 use Rattle.unification.proofs.Depths.{closure-rows}
 use Rattle.unification.proofs.Numberings.{at-hand}
@@ -30,7 +30,7 @@ member-at (y ∷ l) x (List·Memᴰ·head e) = (0, ap some (sym e))
 member-at (y ∷ l) x (List·Memᴰ·tail m) = let r = member-at l x m in (suc (r .0), r .1)
 
 -- Representatives, from a closed numbering of the classes by a row of each: merely in its class, of the least kind, and the lowest such.
-pub represents-from : {count : ℕ} {arity : ℕ → ℕ} {s : Sheet} (I : IsSheet count arity s) {of : ℕ → ℕ} → IsClosed s of → Below (length (s .rows)) (λ p. ∥ Closure s p (of p) ∥₁) → Below (length (s .rows)) (λ r. kind (getElem? (s .rows) (of r)) ≤ kind (getElem? (s .rows) r)) → Below (length (s .rows)) (λ r. kind (getElem? (s .rows) (of r)) ≡ kind (getElem? (s .rows) r) → of r ≤ r) → Represents s of
+pub represents-from : {s : Sheet} (I : IsCoherent s) {of : ℕ → ℕ} → IsClosed s of → Below (length (s .rows)) (λ p. ∥ Closure s p (of p) ∥₁) → Below (length (s .rows)) (λ r. kind (getElem? (s .rows) (of r)) ≤ kind (getElem? (s .rows) r)) → Below (length (s .rows)) (λ r. kind (getElem? (s .rows) (of r)) ≡ kind (getElem? (s .rows) r) → of r ≤ r) → Represents s of
 represents-from I C h k l p hp =
     record {
       together = at-hand I (h p hp);
@@ -53,66 +53,73 @@ at-last [] x (suc p) r h = let z : _≡_ {A = ℕ} 0 1 = cc in absurd (omega ari
 at-last (y ∷ l) x zero r h = inl h
 at-last (y ∷ l) x (suc p) r h = elim (at-last l x p r h) [ inl a ↦ inl a | inr b ↦ inr (ap suc (b .0), b .1) ]
 
+-- Sheets stay coherent, and typed: fresh, with one more equation between rows, with one more row that fits.
+pub fresh-coherent : IsCoherent fresh
+fresh-coherent =
+    record {
+      label = λ p x h. let z : _≡_ {A = ℕ} 0 1 = cc in absurd (omega arith);
+      once = λ p q x h k. let z : _≡_ {A = ℕ} 0 1 = cc in absurd (omega arith);
+      lower = λ p f xs h. let z : _≡_ {A = ℕ} 0 1 = cc in absurd (omega arith);
+      within = λ e m. elim m [ ];
+    }
+
+pub equated-coherent : {s : Sheet} → IsCoherent s → (e : Equation) → e .left < length (s .rows) → e .right < length (s .rows) → IsCoherent (equated s e)
+equated-coherent {s} I e hl hr =
+    record {
+      label = I .label;
+      once = I .once;
+      lower = I .lower;
+      within = λ d m.
+          elim (List·Memᴰ·append-cases (s .equations) m) [
+            | inl a ↦ I .within d a
+            | inr b ↦ let q = List·Memᴰ·eq-of-singleton b in rw q (hl, hr)
+          ];
+    }
+
+pub appended-coherent : {s : Sheet} → IsCoherent s → (r : Row) → Fits s r → IsCoherent (appended s r)
+appended-coherent {s} I r F =
+    record {
+      label = λ p x h. elim (at-last (s .rows) r p (variable x) h) [ inl a ↦ I .label p x a | inr b ↦ new-label r F x (b .1) ];
+      once = λ p q x h k. one p q x (at-last (s .rows) r p (variable x) h) (at-last (s .rows) r q (variable x) k);
+      lower = λ p f xs h i hi.
+          elim (at-last (s .rows) r p (composed f xs) h) [
+            | inl a ↦ I .lower p f xs a i hi
+            | inr b ↦ let e = b .0 in let c = new-args r F f xs (b .1) i hi in omega arith
+          ];
+      within = λ e m. let w = I .within e m in let n = length-append (s .rows) (r ∷ []) in (omega arith, omega arith);
+    }
+  where
+    new-label : (r : Row) → Fits s r → (x : ℕ) → variable x ≡ r → x < 100
+    new-label (variable y) F x e = let z : x ≡ y = cc in rw z (F .0)
+    new-label (composed f xs) F x e = let z : _≡_ {A = ℕ} 0 1 = cc in absurd (omega arith)
+
+    new-args : (r : Row) → Fits s r → (f : ℕ) (xs : List ℕ) → composed f xs ≡ r → Below (length xs) (λ i. getD xs i 0 < length (s .rows))
+    new-args (variable y) F f xs e = let z : _≡_ {A = ℕ} 0 1 = cc in absurd (omega arith)
+    new-args (composed g ys) F f xs e = let y : xs ≡ ys = cc in rw y F
+
+    new-free : (r : Row) → Fits s r → (x : ℕ) → variable x ≡ r → (p : ℕ) → At s p (variable x) → ⊥
+    new-free (variable y) F x e = let z : x ≡ y = cc in rw z (F .1)
+    new-free (composed f xs) F x e = let z : _≡_ {A = ℕ} 0 1 = cc in absurd (omega arith)
+
+    one : (p q x : ℕ) → (At s p (variable x)) ⊎ ((p ≡ length (s .rows)) × (variable x ≡ r)) → (At s q (variable x)) ⊎ ((q ≡ length (s .rows)) × (variable x ≡ r)) → p ≡ q
+    one p q x (inl a) (inl b) = I .once p q x a b
+    one p q x (inl a) (inr b) = absurd (new-free r F x (b .1) p a)
+    one p q x (inr a) (inl b) = absurd (new-free r F x (a .1) q b)
+    one p q x (inr a) (inr b) = a .0 ∙ sym (b .0)
+
 module _ {count : ℕ} {arity : ℕ → ℕ} where
   pub fresh-sheet : IsSheet count arity fresh
-  fresh-sheet =
-      record {
-        label = λ p x h. let z : _≡_ {A = ℕ} 0 1 = cc in absurd (omega arith);
-        once = λ p q x h k. let z : _≡_ {A = ℕ} 0 1 = cc in absurd (omega arith);
-        word = λ p f xs h. let z : _≡_ {A = ℕ} 0 1 = cc in absurd (omega arith);
-        lower = λ p f xs h. let z : _≡_ {A = ℕ} 0 1 = cc in absurd (omega arith);
-        within = λ e m. elim m [ ];
-      }
+  fresh-sheet = record { coherent = fresh-coherent; typed = λ p r h. let z : _≡_ {A = ℕ} 0 1 = cc in absurd (omega arith) }
 
   pub equated-sheet : {s : Sheet} → IsSheet count arity s → (e : Equation) → e .left < length (s .rows) → e .right < length (s .rows) → IsSheet count arity (equated s e)
-  equated-sheet {s} I e hl hr =
+  equated-sheet I e hl hr = record { coherent = equated-coherent (I .coherent) e hl hr; typed = I .typed }
+
+  pub appended-sheet : {s : Sheet} → IsSheet count arity s → (r : Row) → Fits s r → IsTyped count arity r → IsSheet count arity (appended s r)
+  appended-sheet {s} I r F t =
       record {
-        label = I .label;
-        once = I .once;
-        word = I .word;
-        lower = I .lower;
-        within = λ d m.
-            elim (List·Memᴰ·append-cases (s .equations) m) [
-              | inl a ↦ I .within d a
-              | inr b ↦ let q = List·Memᴰ·eq-of-singleton b in rw q (hl, hr)
-            ];
+        coherent = appended-coherent (I .coherent) r F;
+        typed = λ p q h. elim (at-last (s .rows) r p q h) [ inl a ↦ I .typed p q a | inr b ↦ subst (IsTyped count arity) (sym (b .1)) t ];
       }
-
-  pub appended-sheet : {s : Sheet} → IsSheet count arity s → (r : Row) → Fits count arity s r → IsSheet count arity (appended s r)
-  appended-sheet {s} I r F =
-      record {
-        label = λ p x h. elim (at-last (s .rows) r p (variable x) h) [ inl a ↦ I .label p x a | inr b ↦ new-label r F x (b .1) ];
-        once = λ p q x h k. one p q x (at-last (s .rows) r p (variable x) h) (at-last (s .rows) r q (variable x) k);
-        word = λ p f xs h. elim (at-last (s .rows) r p (composed f xs) h) [ inl a ↦ I .word p f xs a | inr b ↦ new-word r F f xs (b .1) ];
-        lower = λ p f xs h i hi.
-            elim (at-last (s .rows) r p (composed f xs) h) [
-              | inl a ↦ I .lower p f xs a i hi
-              | inr b ↦ let e = b .0 in let c = new-args r F f xs (b .1) i hi in omega arith
-            ];
-        within = λ e m. let w = I .within e m in let n = length-append (s .rows) (r ∷ []) in (omega arith, omega arith);
-      }
-    where
-      new-label : (r : Row) → Fits count arity s r → (x : ℕ) → variable x ≡ r → x < 100
-      new-label (variable y) F x e = let z : x ≡ y = cc in rw z (F .0)
-      new-label (composed f xs) F x e = let z : _≡_ {A = ℕ} 0 1 = cc in absurd (omega arith)
-
-      new-word : (r : Row) → Fits count arity s r → (f : ℕ) (xs : List ℕ) → composed f xs ≡ r → (f < count) × (length xs ≡ arity f)
-      new-word (variable y) F f xs e = let z : _≡_ {A = ℕ} 0 1 = cc in absurd (omega arith)
-      new-word (composed g ys) F f xs e = let z : f ≡ g = cc in let y : xs ≡ ys = cc in rw (z, y) (F .0, F .1)
-
-      new-args : (r : Row) → Fits count arity s r → (f : ℕ) (xs : List ℕ) → composed f xs ≡ r → Below (length xs) (λ i. getD xs i 0 < length (s .rows))
-      new-args (variable y) F f xs e = let z : _≡_ {A = ℕ} 0 1 = cc in absurd (omega arith)
-      new-args (composed g ys) F f xs e = let y : xs ≡ ys = cc in rw y (F .2)
-
-      new-free : (r : Row) → Fits count arity s r → (x : ℕ) → variable x ≡ r → (p : ℕ) → At s p (variable x) → ⊥
-      new-free (variable y) F x e = let z : x ≡ y = cc in rw z (F .1)
-      new-free (composed f xs) F x e = let z : _≡_ {A = ℕ} 0 1 = cc in absurd (omega arith)
-
-      one : (p q x : ℕ) → (At s p (variable x)) ⊎ ((p ≡ length (s .rows)) × (variable x ≡ r)) → (At s q (variable x)) ⊎ ((q ≡ length (s .rows)) × (variable x ≡ r)) → p ≡ q
-      one p q x (inl a) (inl b) = I .once p q x a b
-      one p q x (inl a) (inr b) = absurd (new-free r F x (b .1) p a)
-      one p q x (inr a) (inl b) = absurd (new-free r F x (a .1) q b)
-      one p q x (inr a) (inr b) = a .0 ∙ sym (b .0)
 
 module _ {D : Type 0} {S : Operations D} (L : IsScale S) {V : Words D} (W : IsVocabulary S V) {s : Sheet} where
   -- Two words in the closure that are not alike at all make the degree bottom; so do two with different numbers of arguments.
@@ -125,6 +132,6 @@ module _ {D : Type 0} {S : Operations D} (L : IsScale S) {V : Words D} (W : IsVo
 
   pub untyped-bottom : IsSheet (V .count) (V .arity) s → {p q f g : ℕ} {xs ys : List ℕ} → Closure s p q → At s p (composed f xs) → At s q (composed g ys) → (length xs ≡ length ys → ⊥) → IsDegree S V s (S .bottom)
   untyped-bottom I {p} {q} {f} {g} {xs} {ys} c hp hq n =
-      let a = I .word p f xs hp in
-      let b = I .word q g ys hq in
+      let a = I .typed p (composed f xs) hp in
+      let b = I .typed q (composed g ys) hq in
       unlike-bottom c hp hq (W .typed f (a .0) g (b .0) (λ e. n (a .1 ∙ e ∙ sym (b .1))))

@@ -36,7 +36,7 @@ module _ {D : Type 0} {S : Operations D} (L : IsScale S) {V : Words D} (W : IsVo
       go (inl e) k = inl e
       go (inr h) (inl e) = inl e
       go (inr h) (inr k) =
-          let shaped = ap height (apply-composed I θ (a .row) (a .word) (a .args) (a .is)) in
+          let shaped = ap height (apply-composed (I .coherent) θ (a .row) (a .word) (a .args) (a .is)) in
           let inner = height-place (λ r. apply θ (term s r)) (a .args) (a .place) (a .in-args) in
           inr (omega arith)
 

@@ -10,7 +10,7 @@ use native.Mathlib.Omega.{arith}
 use lib.ListN.{length, getD, getElem?}
 use Rattle.std.proofs.shelf.Tests.{cases-eq}
 use Rattle.unification.specs.Closures.{Closure, stated, same, turned, joined, passed, Above, Descent, step, more, Cycle, IsDepth}
-use Rattle.unification.specs.Sheets.{Row, variable, composed, Sheet, At, IsSheet}
+use Rattle.unification.specs.Sheets.{Row, variable, composed, Sheet, At, IsCoherent}
 use Rattle.unification.proofs.Cycles.{depth-no-cycle}
 use Rattle.unification.proofs.Numberings.{closure?}
 use Rattle.unification.proofs.Reading.{at-within}
@@ -28,7 +28,7 @@ reached {p = p} stop i = p
 reached {p = p} (onto a w) zero = p
 reached (onto a w) (suc i) = reached w i
 
-module _ {count : ℕ} {arity : ℕ → ℕ} {s : Sheet} (I : IsSheet count arity s) where
+module _ {s : Sheet} (I : IsCoherent s) where
   -- A row is in the closure with rows alone.
   pub closure-rows : {p q : ℕ} → Closure s p q → (p < length (s .rows) → q < length (s .rows)) × (q < length (s .rows) → p < length (s .rows))
   closure-rows (stated e h) = let w = I .within e h in (λ b. w .1, λ b. w .0)

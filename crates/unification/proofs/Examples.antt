@@ -62,7 +62,7 @@ module _ (rows : List Row) (p q : ℕ) (ofs depths : List ℕ) where
 
   represented : Tested → Entries sheet 0 ofs → Represents sheet (entry ofs)
   represented t h =
-      represents-tested sheet (entry ofs) (sheet-is t) (closed-tested sheet (entry ofs) (t .3) (t .4)) (λ p hp. entries-sound sheet ofs h p) (t .5)
+      represents-tested sheet (entry ofs) (sheet-is t .coherent) (closed-tested sheet (entry ofs) (t .3) (t .4)) (λ p hp. entries-sound sheet ofs h p) (t .5)
 
   degree-is : Tested → Entries sheet 0 ofs → IsDegree markOperations eightWords sheet (gathered markOperations eightWords sheet (entry ofs) (length rows))
   degree-is t h = gathered-degree mark-laws eight-words (represented t h)

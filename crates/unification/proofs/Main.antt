@@ -30,16 +30,16 @@ one-degree L {d = d} {e = e} g h = le-anti L (g .greatest e (h .bound)) (h .grea
 
 module _ {D : Type 0} {S : Operations D} (L : IsScale S) {V : Words D} (W : IsVocabulary S V) where
   pub degree-of : {s : Sheet} → IsSheet (V .count) (V .arity) s → (d : D) × IsDegree S V s d
-  degree-of {s} I = (gathered S V s (representatives I) (length (s .rows)), gathered-degree L W (represents I))
+  degree-of {s} I = (gathered S V s (representatives (I .coherent)) (length (s .rows)), gathered-degree L W (represents (I .coherent)))
 
   pub sheets-have : SheetsHave S V
   sheets-have s I =
       record {
-        terms = terms-read I;
+        terms = terms-read (I .coherent);
         representative = λ p hp.
-            (representatives I p, represents I p hp, λ r h. one-representative (same p) h (represents I p hp));
+            (representatives (I .coherent) p, represents (I .coherent) p hp, λ r h. one-representative (same p) h (represents (I .coherent) p hp));
         degree = (degree-of I .0, degree-of I .1, λ e h. one-degree L (degree-of I .1) h);
-        descent = depth-or-cycle I;
+        descent = depth-or-cycle (I .coherent);
         not-both = λ depth R c. depth-no-cycle R c;
       }
 
@@ -51,17 +51,17 @@ module _ {D : Type 0} {S : Operations D} (L : IsScale S) {V : Words D} (W : IsVo
         attained = solved-suits L W I H K d G;
         best = λ θ w. suits-degree L W I θ w d G;
         general = λ θ w. solved-general L W I H σ K θ w;
-        stable = stable-solution I H K;
+        stable = stable-solution (I .coherent) H K;
       }
 
   pub solutions-are-best : SolutionsAreBest S V
   solutions-are-best s I n d G =
-      let F = depth-of I n in
-      let H = value-solved I (represents I) (F .1) in
+      let F = depth-of (I .coherent) n in
+      let H = value-solved (I .coherent) (represents (I .coherent)) (F .1) in
       record {
-        exists = (solution I (value I (represents I) (F .1)), by-solution I H (is-solution I (value I (represents I) (F .1))));
+        exists = (solution (I .coherent) (value (I .coherent) (represents (I .coherent)) (F .1)), by-solution (I .coherent) H (is-solution (I .coherent) (value (I .coherent) (represents (I .coherent)) (F .1))));
         only = λ σ τ a b. one-solution a b;
-        best = λ σ K. table-best I H (solution-by I H K) G;
+        best = λ σ K. table-best I H (solution-by (I .coherent) H K) G;
       }
 
   pub possible-exactly : PossibleExactly S V

@@ -14,14 +14,14 @@ use Rattle.std.proofs.shelf.Tests.{cases-eq, cases-lt, cases-order, eq-eqb, ne-
 use Rattle.fault.specs.Firsts.{Below}
 use Rattle.unification.specs.Classes.{Member}
 use Rattle.unification.specs.Closures.{Closure, stated, same, turned, joined, passed, kind, Representative}
-use Rattle.unification.specs.Sheets.{Row, variable, composed, Equation, Sheet, At, Holds, IsSheet}
+use Rattle.unification.specs.Sheets.{Row, variable, composed, Equation, Sheet, At, Holds, IsCoherent}
 use Rattle.unification.specs.Tables.{IsClosed, Represents}
 use Rattle.unification.proofs.Reading.{at-within, within-at}
 use Rattle.unification.proofs.Searches.{search-below, first-below, sum, sum-lt}
 use Rattle.unification.proofs.Solving.{args-within, row-kind}
 use Rattle.unification.proofs.Tables.{closed-closure}
 
-module _ {count : ℕ} {arity : ℕ → ℕ} {s : Sheet} (I : IsSheet count arity s) where
+module _ {s : Sheet} (I : IsCoherent s) where
   -- Each row is in the closure with the number of its class.
   abbrev Sound : (ℕ → ℕ) → Type 0
   Sound class = (p : ℕ) → Closure s p (class p)
@@ -179,7 +179,7 @@ kind-within l r h = go (getElem? l r) refl
 within-kind : (l : List Row) (r : ℕ) → r < length l → kind (getElem? l r) ≤ 1
 within-kind l r h = let a = within-at l r h in rw (a .1) (row-kind (a .0))
 
-module _ {count : ℕ} {arity : ℕ → ℕ} {s : Sheet} (I : IsSheet count arity s) where
+module _ {s : Sheet} (I : IsCoherent s) where
   -- Row q is in the closure with p, and of the kind k.
   abbrev Candidate : ℕ → ℕ → ℕ → Type 0
   Candidate k p q = (kind (getElem? (s .rows) q) ≡ k) × Closure s p q

@@ -8,7 +8,7 @@ use lib.ListN.{length, getD, getElem?}
 use Rattle.fault.specs.Firsts.{Below}
 use Rattle.scale.specs.Scales.{Operations, IsScale, AtMost}
 use Rattle.vocabulary.specs.Words.{Words}
-use Rattle.unification.specs.Sheets.{Row, variable, composed, Sheet, At, IsSheet, termsOf, shape, termTo, term, TermsRead}
+use Rattle.unification.specs.Sheets.{Row, variable, composed, Sheet, At, IsCoherent, IsSheet, termsOf, shape, termTo, term, TermsRead}
 use Rattle.unification.specs.Similarity.{alike, allAlike}
 use Rattle.unification.specs.Substitutions.{apply, applyAll}
 use Rattle.unification.specs.Terms.{Term, Terms, var, app, nil, cons, size, Formed, AllFormed}
@@ -52,7 +52,7 @@ getD-at [] p d r e = let z : _≡_ {A = ℕ} 0 1 = cc in absurd (omega arith)
 getD-at (x ∷ l) zero d r e = cc
 getD-at (x ∷ l) (suc p) d r e = getD-at l p d r e
 
-module _ {count : ℕ} {arity : ℕ → ℕ} {s : Sheet} (I : IsSheet count arity s) where
+module _ {s : Sheet} (I : IsCoherent s) where
   pub to-same : (k l p : ℕ) → p < k → p < l → termTo s k p ≡ termTo s l p
   unfolding termTo
   to-same zero l p h m = absurd (omega arith)
@@ -106,11 +106,11 @@ module _ (count : ℕ) (arity : ℕ → ℕ) where
     formed-below (suc k) p h = go (getElem? (s .rows) p) refl (λ a l. formed-below k a l)
       where
         go : (r : Option Row) → getElem? (s .rows) p ≡ r → ((a : ℕ) → a < k → Formed count arity (term s a)) → Formed count arity (term s p)
-        go none e ih = rw (term-none I p e) (omega arith)
-        go (some (variable x)) e ih = rw (term-variable I p x e) (I .label p x e)
+        go none e ih = rw (term-none (I .coherent) p e) (omega arith)
+        go (some (variable x)) e ih = rw (term-variable (I .coherent) p x e) (I .coherent .label p x e)
         go (some (composed f xs)) e ih =
-            let w = I .word p f xs e in
-            rw (term-composed I p f xs e) (w .0, size-terms (term s) xs ∙ w .1, formed-terms (term s) xs (λ i b. let c = I .lower p f xs e i b in ih (getD xs i 0) (omega arith)))
+            let w = I .typed p (composed f xs) e in
+            rw (term-composed (I .coherent) p f xs e) (w .0, size-terms (term s) xs ∙ w .1, formed-terms (term s) xs (λ i b. let c = I .coherent .lower p f xs e i b in ih (getD xs i 0) (omega arith)))
 
     pub formed-term : (p : ℕ) → Formed count arity (term s p)
     formed-term p = formed-below (suc p) p (omega arith)

@@ -10,7 +10,7 @@ use Rattle.fault.specs.Firsts.{Below}
 use Rattle.scale.specs.Scales.{Operations, IsScale, AtMost}
 use Rattle.vocabulary.specs.Words.{Words, IsVocabulary}
 use Rattle.unification.specs.Closures.{Closure, stated, same, turned, joined, passed, kind, Representative, Bound, IsDegree}
-use Rattle.unification.specs.Sheets.{Row, variable, composed, Sheet, At, IsSheet, termsOf, shape, term, suits}
+use Rattle.unification.specs.Sheets.{Row, variable, composed, Sheet, At, IsCoherent, IsSheet, termsOf, shape, term, suits}
 use Rattle.unification.specs.Similarity.{alike, allAlike}
 use Rattle.unification.specs.Substitutions.{apply, IsSubstitution}
 use Rattle.unification.specs.Tables.{IsSolvedBy, IsSolutionBy}
@@ -84,7 +84,7 @@ module _ {s : Sheet} {of : ℕ → ℕ} {value : ℕ → Term} (H : IsSolvedBy s
   pub lower-value : (p f : ℕ) (xs : List ℕ) → p < length (s .rows) → At s (of p) (composed f xs) → (i : ℕ) → i < length xs → height (value (getD xs i 0)) < height (value p)
   lower-value p f xs hp e i hi = let k = height-place value xs i hi in rw (value-composed p f xs hp e) (omega arith)
 
-pub args-within : {count : ℕ} {arity : ℕ → ℕ} {s : Sheet} (I : IsSheet count arity s) (p f : ℕ) (xs : List ℕ) → At s p (composed f xs) → (i : ℕ) → i < length xs → getD xs i 0 < length (s .rows)
+pub args-within : {s : Sheet} (I : IsCoherent s) (p f : ℕ) (xs : List ℕ) → At s p (composed f xs) → (i : ℕ) → i < length xs → getD xs i 0 < length (s .rows)
 args-within {s = s} I p f xs e i hi = let k = I .lower p f xs e i hi in let l = at-within (s .rows) p (composed f xs) e in omega arith
 
 module _ {D : Type 0} {S : Operations D} (L : IsScale S) {V : Words D} (W : IsVocabulary S V) {s : Sheet} (I : IsSheet (V .count) (V .arity) s) {of : ℕ → ℕ} {value : ℕ → Term} (H : IsSolvedBy s of value) where
@@ -99,16 +99,16 @@ module _ {D : Type 0} {S : Operations D} (L : IsScale S) {V : Words D} (W : IsVo
       go : (r : Option Row) → getElem? (s .rows) (of p) ≡ r → ((a : ℕ) → height (value a) < k → a < length (s .rows) → AtMost S (suits S V s θ) (alike S V (apply θ (term s a)) (apply θ (value a)))) → AtMost S (suits S V s θ) (alike S V (apply θ (term s p)) (apply θ (value p)))
       go none e ih = absurd (representative-row H p hp e)
       go (some (variable x)) e ih =
-          subst (λ (t : Term). AtMost S (suits S V s θ) (alike S V (apply θ (term s p)) (apply θ t))) (term-variable I (of p) x e ∙ sym (value-variable H p x hp e)) first
+          subst (λ (t : Term). AtMost S (suits S V s θ) (alike S V (apply θ (term s p)) (apply θ t))) (term-variable (I .coherent) (of p) x e ∙ sym (value-variable H p x hp e)) first
       go (some (composed f xs)) e ih =
           chain-le L W (apply θ (term s p)) (apply θ (term s (of p))) (apply θ (value p)) first
           (subst₂ (λ (t u : Term). AtMost S (suits S V s θ) (alike S V t u))
-          (sym (apply-composed I θ (of p) f xs e))
+          (sym (apply-composed (I .coherent) θ (of p) f xs e))
           (sym (ap (apply θ) (value-composed H p f xs hp e) ∙ ap (app f) (apply-terms θ value xs)))
           (meet-glb L
-          (le-trans L (le-top L (suits S V s θ)) (le-of-eq L (sym (W .same f (I .word (of p) f xs e .0)))))
+          (le-trans L (le-top L (suits S V s θ)) (le-of-eq L (sym (W .same f (I .typed (of p) (composed f xs) e .0)))))
           (all-places L V (suits S V s θ) (λ a. apply θ (term s a)) (λ a. apply θ (value a)) xs xs refl
-          (λ i hi. let l = lower-value H p f xs hp e i hi in ih (getD xs i 0) (omega arith) (args-within I (of p) f xs e i hi)))))
+          (λ i hi. let l = lower-value H p f xs hp e i hi in ih (getD xs i 0) (omega arith) (args-within (I .coherent) (of p) f xs e i hi)))))
 
   pub general-row : (θ : ℕ → Term) → IsSubstitution V θ → (p : ℕ) → p < length (s .rows) → AtMost S (suits S V s θ) (alike S V (apply θ (term s p)) (apply θ (value p)))
   general-row θ w p hp = general-below θ w (suc (height (value p))) p (omega arith) hp
@@ -118,7 +118,7 @@ module _ {D : Type 0} {S : Operations D} (L : IsScale S) {V : Words D} (W : IsVo
     where
       go : Dec ((p : ℕ) × At s p (variable x)) → AtMost S (suits S V s θ) (alike S V (θ x) (apply θ (σ x)))
       go (yes h) =
-          subst₂ (λ (t u : Term). AtMost S (suits S V s θ) (alike S V (apply θ t) (apply θ u))) (term-variable I (h .0) x (h .1)) (sym (K .labelled (h .0) x (h .1)))
+          subst₂ (λ (t u : Term). AtMost S (suits S V s θ) (alike S V (apply θ t) (apply θ u))) (term-variable (I .coherent) (h .0) x (h .1)) (sym (K .labelled (h .0) x (h .1)))
           (general-row θ w (h .0) (at-within (s .rows) (h .0) (variable x) (h .1)))
       go (no n) = rw (K .other x hx (λ p e. n (p, e))) (same-le L W (suits S V s θ) (θ x) (w x hx))
 
@@ -129,11 +129,11 @@ module _ {D : Type 0} {S : Operations D} (L : IsScale S) {V : Words D} (W : IsVo
     where
       go : (r : Option Row) → getElem? (s .rows) (of p) ≡ r → ((a : ℕ) → height (value a) < k → a < length (s .rows) → Formed (V .count) (V .arity) (value a)) → Formed (V .count) (V .arity) (value p)
       go none e ih = absurd (representative-row H p hp e)
-      go (some (variable x)) e ih = rw (value-variable H p x hp e) (I .label (of p) x e)
+      go (some (variable x)) e ih = rw (value-variable H p x hp e) (I .coherent .label (of p) x e)
       go (some (composed f xs)) e ih =
-          let w = I .word (of p) f xs e in
+          let w = I .typed (of p) (composed f xs) e in
           rw (value-composed H p f xs hp e)
-          (w .0, size-terms value xs ∙ w .1, formed-terms (V .count) (V .arity) value xs (λ i hi. let l = lower-value H p f xs hp e i hi in ih (getD xs i 0) (omega arith) (args-within I (of p) f xs e i hi)))
+          (w .0, size-terms value xs ∙ w .1, formed-terms (V .count) (V .arity) value xs (λ i hi. let l = lower-value H p f xs hp e i hi in ih (getD xs i 0) (omega arith) (args-within (I .coherent) (of p) f xs e i hi)))
 
   pub formed-value : (p : ℕ) → p < length (s .rows) → Formed (V .count) (V .arity) (value p)
   formed-value p hp = formed-value-below (suc (height (value p))) p (omega arith) hp
@@ -155,10 +155,10 @@ module _ {D : Type 0} {S : Operations D} (L : IsScale S) {V : Words D} (W : IsVo
         go r none e m ih = absurd (representative-row H p hp m)
         go none (some q) e m ih = let r = within-at (s .rows) p hp in let z : none ≡ some (r .0) = sym e ∙ r .1 in let z : _≡_ {A = ℕ} 0 1 = cc in absurd (omega arith)
         go (some (variable x)) (some q) e m ih =
-            subst (λ (t : Term). AtMost S d (alike S V t (value p))) (sym (ap (apply σ) (term-variable I p x e) ∙ K .labelled p x e)) (same-le L W d (value p) (formed-value p hp))
+            subst (λ (t : Term). AtMost S d (alike S V t (value p))) (sym (ap (apply σ) (term-variable (I .coherent) p x e) ∙ K .labelled p x e)) (same-le L W d (value p) (formed-value p hp))
         go (some (composed f xs)) (some (variable x)) e m ih = absurd (representative-composed H p f x xs e m)
         go (some (composed f xs)) (some (composed g ys)) e m ih =
-            subst₂ (λ (t u : Term). AtMost S d (alike S V t u)) (sym (apply-composed I σ p f xs e)) (sym (value-composed H p g ys hp m))
+            subst₂ (λ (t u : Term). AtMost S d (alike S V t u)) (sym (apply-composed (I .coherent) σ p f xs e)) (sym (value-composed H p g ys hp m))
             (meet-glb L words (places (ℕ-discrete (length xs) (length ys))))
           where
             with : Closure s p (of p)
@@ -172,11 +172,11 @@ module _ {D : Type 0} {S : Operations D} (L : IsScale S) {V : Words D} (W : IsVo
                 all-places L V d (λ a. apply σ (term s a)) value xs ys l
                 (λ i hi.
                 subst (λ (t : Term). AtMost S d (alike S V (apply σ (term s (getD xs i 0))) t))
-                (one-value H (passed f g xs ys i (H .represents p hp .together) e m l hi) (args-within I p f xs e i hi) (args-within I (of p) g ys m i (omega arith)))
-                (let c = I .lower p f xs e i hi in ih (getD xs i 0) (omega arith) (args-within I p f xs e i hi)))
+                (one-value H (passed f g xs ys i (H .represents p hp .together) e m l hi) (args-within (I .coherent) p f xs e i hi) (args-within (I .coherent) (of p) g ys m i (omega arith)))
+                (let c = I .coherent .lower p f xs e i hi in ih (getD xs i 0) (omega arith) (args-within (I .coherent) p f xs e i hi)))
             places (no n) =
-                let hf = I .word p f xs e in
-                let hg = I .word (of p) g ys m in
+                let hf = I .typed p (composed f xs) e in
+                let hg = I .typed (of p) (composed g ys) m in
                 let unlike = W .typed f (hf .0) g (hg .0) (λ h. n (hf .1 ∙ h ∙ sym (hg .1))) in
                 le-trans L words (le-trans L (le-of-eq L unlike) (bottom-le L (allAlike S V (termsOf (λ a. apply σ (term s a)) xs) (termsOf value ys))))
 
@@ -190,7 +190,7 @@ module _ {D : Type 0} {S : Operations D} (L : IsScale S) {V : Words D} (W : IsVo
         (turn-le L W (apply σ (term s q)) (value p) (subst (λ (t : Term). AtMost S d (alike S V (apply σ (term s q)) t)) (sym (one-value H c hp hq)) (near b q hq)))
 
     pub bound-suits : {d : D} → Bound S V s d → AtMost S d (suits S V s σ)
-    bound-suits b = suits-each L V s σ (s .equations) (λ e h. let w = I .within e h in solved-closure b (e .left) (e .right) (stated e h) (w .0) (w .1))
+    bound-suits b = suits-each L V s σ (s .equations) (λ e h. let w = I .coherent .within e h in solved-closure b (e .left) (e .right) (stated e h) (w .0) (w .1))
 
     pub solved-suits : (d : D) → IsDegree S V s d → suits S V s σ ≡ d
     solved-suits d g = le-anti L (suits-degree L W I σ formed-solution d g) (bound-suits (g .bound))

@@ -11,7 +11,7 @@ use Rattle.std.proofs.shelf.Tests.{and-parts, or-cases, not-true, both-ways, lt
 use Rattle.fault.specs.Firsts.{Below}
 use Rattle.unification.specs.Classes.{Member}
 use Rattle.unification.specs.Closures.{Closure, IsDepth, kind}
-use Rattle.unification.specs.Sheets.{Row, variable, composed, Equation, Sheet, At, IsSheet}
+use Rattle.unification.specs.Sheets.{Row, variable, composed, Equation, Sheet, At, IsCoherent, IsSheet, IsTyped}
 use Rattle.unification.specs.Tables.{IsClosed, Represents}
 use Rattle.unification.proofs.Bridges.{represents-from, depth-from}
 use Rattle.unification.proofs.Reading.{at-within}
@@ -67,24 +67,30 @@ module _ (count : ℕ) (arity : ℕ → ℕ) (s : Sheet) where
       let b = rw (hp, hq) at a in
       eqb-true p q (implied (eqb x x) (eqb p q) b (eq-eqb x x refl))
 
+  word-at : formedTest ≡ true → (p f : ℕ) (xs : List ℕ) → At s p (composed f xs) → (ltb f count ≡ true) × (eqb (length xs) (arity f) ≡ true) × (every (length xs) (λ i. ltb (getD xs i 0) p) ≡ true)
+  word-at t p f xs h =
+      let a = and-parts (ltb f count) (eqb (length xs) (arity f) && every (length xs) (λ i. ltb (getD xs i 0) p)) (formed-at t p (composed f xs) h) in
+      let b = and-parts (eqb (length xs) (arity f)) (every (length xs) (λ i. ltb (getD xs i 0) p)) (a .1) in
+      (a .0, b .0, b .1)
+
   pub sheet-tested : formedTest ≡ true → onceTest ≡ true → withinTest ≡ true → IsSheet count arity s
   sheet-tested t o w =
       record {
-        label = λ p x h. ltb-true x 100 (formed-at t p (variable x) h);
-        once = once-at o;
-        word = λ p f xs h.
-            let a = and-parts (ltb f count) (eqb (length xs) (arity f) && every (length xs) (λ i. ltb (getD xs i 0) p)) (formed-at t p (composed f xs) h) in
-            let b = and-parts (eqb (length xs) (arity f)) (every (length xs) (λ i. ltb (getD xs i 0) p)) (a .1) in
-            (ltb-true f count (a .0), eqb-true (length xs) (arity f) (b .0));
-        lower = λ p f xs h i hi.
-            let a = and-parts (ltb f count) (eqb (length xs) (arity f) && every (length xs) (λ i. ltb (getD xs i 0) p)) (formed-at t p (composed f xs) h) in
-            let b = and-parts (eqb (length xs) (arity f)) (every (length xs) (λ i. ltb (getD xs i 0) p)) (a .1) in
-            ltb-true (getD xs i 0) p (every-below (length xs) (λ i. ltb (getD xs i 0) p) (b .1) i hi);
-        within = λ e m.
-            let a = and-parts (ltb (e .left) (length (s .rows))) (ltb (e .right) (length (s .rows)))
-            (every-equation (s .equations) (λ e. ltb (e .left) (length (s .rows)) && ltb (e .right) (length (s .rows))) w e m) in
-            (ltb-true (e .left) (length (s .rows)) (a .0), ltb-true (e .right) (length (s .rows)) (a .1));
+        coherent = record {
+          label = λ p x h. ltb-true x 100 (formed-at t p (variable x) h);
+          once = once-at o;
+          lower = λ p f xs h i hi. ltb-true (getD xs i 0) p (every-below (length xs) (λ i. ltb (getD xs i 0) p) (word-at t p f xs h .2) i hi);
+          within = λ e m.
+              let a = and-parts (ltb (e .left) (length (s .rows))) (ltb (e .right) (length (s .rows)))
+              (every-equation (s .equations) (λ e. ltb (e .left) (length (s .rows)) && ltb (e .right) (length (s .rows))) w e m) in
+              (ltb-true (e .left) (length (s .rows)) (a .0), ltb-true (e .right) (length (s .rows)) (a .1));
+        };
+        typed = typed;
       }
+    where
+      typed : (p : ℕ) (r : Row) → At s p r → IsTyped count arity r
+      typed p (variable x) h = tt
+      typed p (composed f xs) h = let a = word-at t p f xs h in (ltb-true f count (a .0), eqb-true (length xs) (arity f) (a .1))
 
 -- The arguments of two rows have the same classes, if the rows are composed, of one class and with equally many arguments.
 abbrev agree : (ℕ → ℕ) → Bool → Option Row → Option Row → Bool
@@ -141,7 +147,7 @@ module _ (s : Sheet) (of : ℕ → ℕ) where
       and-parts (leb (kind (getElem? (s .rows) (of r))) (kind (getElem? (s .rows) r))) (not (eqb (kind (getElem? (s .rows) (of r))) (kind (getElem? (s .rows) r))) || leb (of r) r)
       (every-below (length (s .rows)) (λ r. leb (kind (getElem? (s .rows) (of r))) (kind (getElem? (s .rows) r)) && (not (eqb (kind (getElem? (s .rows) (of r))) (kind (getElem? (s .rows) r))) || leb (of r) r)) t r hr)
 
-  pub represents-tested : {count : ℕ} {arity : ℕ → ℕ} → IsSheet count arity s → IsClosed s of → Below (length (s .rows)) (λ p. Closure s p (of p)) → kindTest ≡ true → Represents s of
+  pub represents-tested : IsCoherent s → IsClosed s of → Below (length (s .rows)) (λ p. Closure s p (of p)) → kindTest ≡ true → Represents s of
   represents-tested I C h t =
       represents-from I C (λ p hp. ∣ h p hp ∣₁)
       (λ r hr. leb-true (kind (getElem? (s .rows) (of r))) (kind (getElem? (s .rows) r)) (kind-at t r hr .0))

@@ -35,14 +35,14 @@ module _ {D : Type 0} {S : Operations D} (L : IsScale S) {V : Words D} (W : IsVo
   closure-alike (passed {p = a} {q = b} f g xs ys i c hp hq hl hi) =
       place-of L V (suits S V s θ) (λ r. apply θ (term s r)) (λ r. apply θ (term s r)) xs ys hl i hi
       (le-trans L
-      (subst₂ (λ (t u : Term). AtMost S (suits S V s θ) (alike S V t u)) (apply-composed I θ a f xs hp) (apply-composed I θ b g ys hq) (closure-alike c))
+      (subst₂ (λ (t u : Term). AtMost S (suits S V s θ) (alike S V t u)) (apply-composed (I .coherent) θ a f xs hp) (apply-composed (I .coherent) θ b g ys hq) (closure-alike c))
       (meet-right L (V .likeness f g) _))
 
   -- Hence the degree of a substitution bounds the words that are put together.
   pub suits-bound : Bound S V s (suits S V s θ)
   suits-bound p q f g xs ys c hp hq =
       le-trans L
-      (subst₂ (λ (t u : Term). AtMost S (suits S V s θ) (alike S V t u)) (apply-composed I θ p f xs hp) (apply-composed I θ q g ys hq) (closure-alike c))
+      (subst₂ (λ (t u : Term). AtMost S (suits S V s θ) (alike S V t u)) (apply-composed (I .coherent) θ p f xs hp) (apply-composed (I .coherent) θ q g ys hq) (closure-alike c))
       (meet-left L (V .likeness f g) _)
 
   pub suits-degree : (d : D) → IsDegree S V s d → AtMost S (suits S V s θ) d

@@ -7,7 +7,7 @@ use native.Mathlib.Omega.{arith}
 use lib.ListN.{length, getD, getElem?}
 use Rattle.fault.specs.Firsts.{Below}
 use Rattle.unification.specs.Closures.{Closure, same, IsDepth, Representative}
-use Rattle.unification.specs.Sheets.{Row, variable, composed, Sheet, At, IsSheet, termsOf, shape}
+use Rattle.unification.specs.Sheets.{Row, variable, composed, Sheet, At, IsCoherent, termsOf, shape}
 use Rattle.unification.specs.Solutions.{Solved, free, built, AllSolved, none as none-solved, each, IsSolution}
 use Rattle.unification.specs.Substitutions.{apply}
 use Rattle.unification.specs.Tables.{Represents, IsSolvedBy, IsSolutionBy}
@@ -21,7 +21,7 @@ valueTo : Sheet → (ℕ → ℕ) → ℕ → ℕ → Term
 valueTo s of zero p = var 0
 valueTo s of (suc k) p = shape (valueTo s of k) (getElem? (s .rows) (of p))
 
-module _ {count : ℕ} {arity : ℕ → ℕ} {s : Sheet} (I : IsSheet count arity s) {of : ℕ → ℕ} (R : Represents s of) {depth : ℕ → ℕ} (F : IsDepth s depth) where
+module _ {s : Sheet} (I : IsCoherent s) {of : ℕ → ℕ} (R : Represents s of) {depth : ℕ → ℕ} (F : IsDepth s depth) where
   lower-depth : (p f : ℕ) (xs : List ℕ) → p < length (s .rows) → At s (of p) (composed f xs) → Below (length xs) (λ i. depth (getD xs i 0) < depth p)
   lower-depth p f xs hp e i hi =
       F p (getD xs i 0)
@@ -57,7 +57,7 @@ module _ {count : ℕ} {arity : ℕ → ℕ} {s : Sheet} (I : IsSheet count arit
           (λ i hi. to-same (depth p) (suc (depth (getD xs i 0))) (getD xs i 0) (args-within I (of p) f xs e i hi) (lower-depth p f xs hp e i hi) (omega arith)))
 
 -- The solved substitution of given values.
-module _ {count : ℕ} {arity : ℕ → ℕ} {s : Sheet} (I : IsSheet count arity s) (value : ℕ → Term) where
+module _ {s : Sheet} (I : IsCoherent s) (value : ℕ → Term) where
   pick : (x : ℕ) → Dec ((p : ℕ) × At s p (variable x)) → Term
   pick x (yes h) = value (h .0)
   pick x (no n) = var x
@@ -78,7 +78,7 @@ module _ {count : ℕ} {arity : ℕ → ℕ} {s : Sheet} (I : IsSheet count arit
       no-row x h (no n) = refl
 
 -- Values that a table gives are the solved values, and the other way round.
-module _ {count : ℕ} {arity : ℕ → ℕ} {s : Sheet} (I : IsSheet count arity s) {of : ℕ → ℕ} {value : ℕ → Term} (H : IsSolvedBy s of value) where
+module _ {s : Sheet} (I : IsCoherent s) {of : ℕ → ℕ} {value : ℕ → Term} (H : IsSolvedBy s of value) where
   representative-at : {p q : ℕ} {r : Row} → p < length (s .rows) → Representative s q p → At s q r → At s (of p) r
   representative-at {p} {q} {r} hp c e = subst (λ (a : ℕ). At s a r) (one-representative (same p) c (H .represents p hp)) e
 

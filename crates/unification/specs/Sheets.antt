@@ -46,21 +46,30 @@ appended s r = record { rows = s .rows ++ (r ∷ []); equations = s .equations }
 abbrev pub equated : Sheet → Equation → Sheet
 equated s e = record { rows = s .rows; equations = s .equations ++ (e ∷ []) }
 
--- A well-formed sheet over `count` words with their arities.
-pub record IsSheet (count : ℕ) (arity : ℕ → ℕ) (s : Sheet) : Type 0 where
+-- A sheet whose rows and equations fit together, whatever its words.
+pub record IsCoherent (s : Sheet) : Type 0 where
   -- a label is 0 to 99, and has one row
   pub label : (p x : ℕ) → At s p (variable x) → x < 100
   pub once : (p q x : ℕ) → At s p (variable x) → At s q (variable x) → p ≡ q
-  -- a composed row has a word, as many arguments as its arity, and each argument is a lower row
-  pub word : (p f : ℕ) (xs : List ℕ) → At s p (composed f xs) → (f < count) × (length xs ≡ arity f)
+  -- each argument of a composed row is a lower row
   pub lower : (p f : ℕ) (xs : List ℕ) → At s p (composed f xs) → Below (length xs) (λ i. getD xs i 0 < p)
   -- both sides of an equation are rows
   pub within : (e : Equation) → Holds s e → (e .left < length (s .rows)) × (e .right < length (s .rows))
 
--- A row that a well-formed sheet may get: a label of 0 to 99 that has no row yet, or a word with as many of the rows as its arity.
-abbrev pub Fits : ℕ → (ℕ → ℕ) → Sheet → Row → Type 0
-Fits count arity s (variable x) = (x < 100) × ((p : ℕ) → At s p (variable x) → ⊥)
-Fits count arity s (composed f xs) = (f < count) × (length xs ≡ arity f) × Below (length xs) (λ i. getD xs i 0 < length (s .rows))
+-- A row over `count` words with their arities: its word is one of them, and has as many arguments as its arity.
+abbrev pub IsTyped : ℕ → (ℕ → ℕ) → Row → Type 0
+IsTyped count arity (variable x) = Unit {0}
+IsTyped count arity (composed f xs) = (f < count) × (length xs ≡ arity f)
+
+-- A well-formed sheet over `count` words with their arities.
+pub record IsSheet (count : ℕ) (arity : ℕ → ℕ) (s : Sheet) : Type 0 where
+  pub coherent : IsCoherent s
+  pub typed : (p : ℕ) (r : Row) → At s p r → IsTyped count arity r
+
+-- A row that a coherent sheet may get: a label of 0 to 99 that has no row yet, or a word with some of the rows.
+abbrev pub Fits : Sheet → Row → Type 0
+Fits s (variable x) = (x < 100) × ((p : ℕ) → At s p (variable x) → ⊥)
+Fits s (composed f xs) = Below (length xs) (λ i. getD xs i 0 < length (s .rows))
 
 -- The terms of some rows, where `of` gives the term of each.
 abbrev pub termsOf : (ℕ → Term) → List ℕ → Terms
