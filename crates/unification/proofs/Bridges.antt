@@ -5,13 +5,13 @@ use mathlib.Core.Option.{some}
 use mathlib.Core.Path.{_≡_, refl, sym, ap, _∙_, subst}
 use Prim.Native.Nat.{ℕ, zero, suc, _<_, _≤_}
 use native.Mathlib.Omega.{arith}
-use lib.ListN.{length, getD, getElem?, length-append}
+use lib.ListN.{length, getD, getElem?, take, length-append, length-take}
 use Rattle.fault.specs.Firsts.{Below}
 use Rattle.scale.specs.Scales.{Operations, IsScale}
 use Rattle.vocabulary.specs.Words.{Words, IsVocabulary}
 use Rattle.unification.specs.Classes.{Member}
 use Rattle.unification.specs.Closures.{Closure, IsDepth, kind, IsDegree}
-use Rattle.unification.specs.Sheets.{Row, variable, composed, Equation, Sheet, At, fresh, appended, equated, IsCoherent, IsSheet, IsTyped, Fits}
+use Rattle.unification.specs.Sheets.{Row, variable, composed, Equation, Sheet, At, Holds, kept, fresh, appended, equated, IsCoherent, IsSheet, IsTyped, Fits}
 use Rattle.unification.specs.Tables.{IsClosed, Represents}
 use Rattle.unification.proofs.Depths.{closure-rows}
 use Rattle.unification.proofs.Numberings.{at-hand}
@@ -107,12 +107,35 @@ appended-coherent {s} I r F =
     one p q x (inr a) (inl b) = absurd (new-free r F x (a .1) q b)
     one p q x (inr a) (inr b) = a .0 ∙ sym (b .0)
 
+-- A row of the first ones is the same row.
+at-kept : (l : List Row) (k p : ℕ) (r : Row) → getElem? (take k l) p ≡ some r → getElem? l p ≡ some r
+at-kept l zero p r h = let z : _≡_ {A = ℕ} 0 1 = cc in absurd (omega arith)
+at-kept [] (suc k) p r h = let z : _≡_ {A = ℕ} 0 1 = cc in absurd (omega arith)
+at-kept (x ∷ l) (suc k) zero r h = h
+at-kept (x ∷ l) (suc k) (suc p) r h = at-kept l k p r h
+
+pub kept-coherent : {s : Sheet} → IsCoherent s → (r m : ℕ) → r ≤ length (s .rows) → ((e : Equation) → Holds (kept r m s) e → (e .left < r) × (e .right < r)) → IsCoherent (kept r m s)
+kept-coherent {s} I r m b w =
+    record {
+      label = λ p x h. I .label p x (at-kept (s .rows) r p (variable x) h);
+      once = λ p q x h k. I .once p q x (at-kept (s .rows) r p (variable x) h) (at-kept (s .rows) r q (variable x) k);
+      lower = λ p f xs h. I .lower p f xs (at-kept (s .rows) r p (composed f xs) h);
+      within = λ e h. let n = length-take r (s .rows) in let c = w e h in (omega arith, omega arith);
+    }
+
 module _ {count : ℕ} {arity : ℕ → ℕ} where
   pub fresh-sheet : IsSheet count arity fresh
   fresh-sheet = record { coherent = fresh-coherent; typed = λ p r h. let z : _≡_ {A = ℕ} 0 1 = cc in absurd (omega arith) }
 
   pub equated-sheet : {s : Sheet} → IsSheet count arity s → (e : Equation) → e .left < length (s .rows) → e .right < length (s .rows) → IsSheet count arity (equated s e)
   equated-sheet I e hl hr = record { coherent = equated-coherent (I .coherent) e hl hr; typed = I .typed }
+
+  pub kept-sheet : {s : Sheet} → IsSheet count arity s → (r m : ℕ) → r ≤ length (s .rows) → ((e : Equation) → Holds (kept r m s) e → (e .left < r) × (e .right < r)) → IsSheet count arity (kept r m s)
+  kept-sheet {s} I r m b w =
+      record {
+        coherent = kept-coherent (I .coherent) r m b w;
+        typed = λ p q h. I .typed p q (at-kept (s .rows) r p q h);
+      }
 
   pub appended-sheet : {s : Sheet} → IsSheet count arity s → (r : Row) → Fits s r → IsTyped count arity r → IsSheet count arity (appended s r)
   appended-sheet {s} I r F t =

@@ -2,7 +2,7 @@ use mathlib.Core.List.{List, [], _∷_, _++_}
 use mathlib.Core.Option.{Option, none, some}
 use mathlib.Core.Path.{_≡_}
 use Prim.Native.Nat.{ℕ, zero, suc, _<_}
-use lib.ListN.{length, getD, getElem?}
+use lib.ListN.{length, getD, getElem?, take}
 use Rattle.fault.specs.Firsts.{Below}
 use Rattle.scale.specs.Scales.{Operations}
 use Rattle.vocabulary.specs.Words.{Words}
@@ -45,6 +45,10 @@ appended s r = record { rows = s .rows ++ (r ∷ []); equations = s .equations }
 -- The sheet with one more equation, at the end.
 abbrev pub equated : Sheet → Equation → Sheet
 equated s e = record { rows = s .rows; equations = s .equations ++ (e ∷ []) }
+
+-- The first r rows and the first m equations of a sheet.
+abbrev pub kept : ℕ → ℕ → Sheet → Sheet
+kept r m s = record { rows = take r (s .rows); equations = take m (s .equations) }
 
 -- A sheet whose rows and equations fit together, whatever its words.
 pub record IsCoherent (s : Sheet) : Type 0 where
