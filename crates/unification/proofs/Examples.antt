@@ -10,12 +10,12 @@ use Rattle.scale.specs.Degrees.{markOperations}
 use Rattle.scale.specs.declared.mark.Mark.{Mark}
 use Rattle.scale.proofs.Degrees.{same-mark}
 use Rattle.scale.proofs.Laws.{mark-laws}
-use Rattle.unification.specs.Closures.{Closure, stated, same, turned, joined, passed, step, IsDegree, Clash, Occurs}
+use Rattle.unification.specs.Closures.{Closure, stated, same, turned, joined, passed, step, IsDegree, Clash}
 use Rattle.unification.specs.EightWords.{eightWords}
-use Rattle.unification.specs.Examples.{rowed, between, Binding, Bindings, Matches, constant, binds, status, paused, suspended, ended, grid, mains, driver, c2, pausedSuspended, twice, pausedEnded, pausedItself, gridDriver, twoVariables, WorkedExamples}
+use Rattle.unification.specs.Examples.{rowed, between, Binding, Bindings, Matches, status, paused, suspended, ended, grid, mains, driver, pausedSuspended, twice, pausedEnded, pausedItself, gridDriver, twoVariables, AlikeWords, GridFirst, MainsFirst, Nested, Variables, OccursInItself, ClashOfWords, WorkedExamples}
 use Rattle.unification.specs.Sheets.{Row, Sheet, IsSheet, equated}
 use Rattle.unification.specs.Solutions.{free, built, none, each, IsSolution}
-use Rattle.unification.specs.Terms.{Term, var, app, nil, cons}
+use Rattle.unification.specs.Terms.{Term}
 use Rattle.unification.specs.Tables.{Represents, gathered}
 use Rattle.unification.proofs.Bridges.{unlike-bottom}
 use Rattle.unification.proofs.Cycles.{depth-no-cycle}
@@ -76,9 +76,9 @@ module _ (rows : List Row) (p q : ℕ) (ofs depths : List ℕ) where
         bound = b (represented t h);
       }
 
-alike-words : Matches pausedSuspended 3 7 800 (binds 1 (constant c2) ∷ binds 2 (constant grid) ∷ [])
+alike-words : AlikeWords
 alike-words =
-    matches pausedSuspended 3 7 (4 ∷ 5 ∷ 2 ∷ 3 ∷ 4 ∷ 5 ∷ 2 ∷ 3 ∷ []) (0 ∷ 0 ∷ 1 ∷ 2 ∷ 0 ∷ 0 ∷ 1 ∷ 2 ∷ []) 800 _ (refl, refl, refl, refl, refl, refl)
+    matches pausedSuspended 3 7 (4 ∷ 5 ∷ 2 ∷ 3 ∷ 4 ∷ 5 ∷ 2 ∷ 3 ∷ []) (0 ∷ 0 ∷ 1 ∷ 2 ∷ 0 ∷ 0 ∷ 1 ∷ 2 ∷ []) _ _ (refl, refl, refl, refl, refl, refl)
     (whole-left, (inner, (same 2, (same 3, (same 4, (same 5, (turned whole-right, (turned whole, tt)))))))) refl refl
     (λ R σ K. (
       one-solved (K .labelled 0 1 refl) (built (R 0 (omega arith)) refl none),
@@ -110,19 +110,19 @@ twice-entries f g = (left, (same 1, (same 2, (joined (turned right) left, (turne
     right : Closure (equated (rowed (twice f g)) (between 1 4)) 0 3
     right = passed {p = 1} {q = 4} status status (0 ∷ 0 ∷ []) (2 ∷ 3 ∷ []) 1 whole refl refl refl (omega arith)
 
-grid-first : Matches (twice grid mains) 1 4 900 (binds 1 (constant grid) ∷ [])
+grid-first : GridFirst
 grid-first =
-    matches (twice grid mains) 1 4 (2 ∷ 1 ∷ 2 ∷ 2 ∷ 1 ∷ []) (0 ∷ 1 ∷ 0 ∷ []) 900 _ (refl, refl, refl, refl, refl, refl) (twice-entries grid mains) refl refl
+    matches (twice grid mains) 1 4 (2 ∷ 1 ∷ 2 ∷ 2 ∷ 1 ∷ []) (0 ∷ 1 ∷ 0 ∷ []) _ _ (refl, refl, refl, refl, refl, refl) (twice-entries grid mains) refl refl
     (λ R σ K. (one-solved (K .labelled 0 1 refl) (built (R 0 (omega arith)) refl none), tt))
 
-mains-first : Matches (twice mains grid) 1 4 900 (binds 1 (constant mains) ∷ [])
+mains-first : MainsFirst
 mains-first =
-    matches (twice mains grid) 1 4 (2 ∷ 1 ∷ 2 ∷ 2 ∷ 1 ∷ []) (0 ∷ 1 ∷ 0 ∷ []) 900 _ (refl, refl, refl, refl, refl, refl) (twice-entries mains grid) refl refl
+    matches (twice mains grid) 1 4 (2 ∷ 1 ∷ 2 ∷ 2 ∷ 1 ∷ []) (0 ∷ 1 ∷ 0 ∷ []) _ _ (refl, refl, refl, refl, refl, refl) (twice-entries mains grid) refl refl
     (λ R σ K. (one-solved (K .labelled 0 1 refl) (built (R 0 (omega arith)) refl none), tt))
 
-nested : Matches pausedEnded 1 6 300 (binds 1 (app paused (cons (constant driver) nil)) ∷ binds 2 (constant driver) ∷ [])
+nested : Nested
 nested =
-    matches pausedEnded 1 6 (3 ∷ 1 ∷ 4 ∷ 3 ∷ 4 ∷ 3 ∷ 1 ∷ []) (0 ∷ 2 ∷ 0 ∷ 1 ∷ 0 ∷ []) 300 _ (refl, refl, refl, refl, refl, refl)
+    matches pausedEnded 1 6 (3 ∷ 1 ∷ 4 ∷ 3 ∷ 4 ∷ 3 ∷ 1 ∷ []) (0 ∷ 2 ∷ 0 ∷ 1 ∷ 0 ∷ []) _ _ (refl, refl, refl, refl, refl, refl)
     (left, (same 1, (inner, (same 3, (same 4, (turned words, (turned whole, tt))))))) refl refl
     (λ R σ K. (
       one-solved (K .labelled 0 1 refl) (built (R 0 (omega arith)) refl (each (built (R 2 (omega arith)) refl none) none)),
@@ -141,16 +141,16 @@ nested =
     inner : Closure (equated (rowed pausedEnded) (between 1 6)) 2 4
     inner = passed {p = 3} {q = 5} paused ended (2 ∷ []) (4 ∷ []) 0 words refl refl refl (omega arith)
 
-variables : Matches twoVariables 0 1 1000 (binds 1 (var 1) ∷ binds 2 (var 1) ∷ [])
+variables : Variables
 variables =
-    matches twoVariables 0 1 (0 ∷ 0 ∷ []) [] 1000 _ (refl, refl, refl, refl, refl, refl)
+    matches twoVariables 0 1 (0 ∷ 0 ∷ []) [] _ _ (refl, refl, refl, refl, refl, refl)
     (same 0, (turned (stated (between 0 1) (List·Memᴰ·head refl)), tt)) refl refl
     (λ R σ K. (
       one-solved (K .labelled 0 1 refl) (free (R 0 (omega arith)) refl),
       (one-solved (K .labelled 1 2 refl) (free (R 1 (omega arith)) refl), tt),
     ))
 
-occurs : Occurs markOperations eightWords (rowed pausedItself) (between 0 1)
+occurs : OccursInItself
 occurs = (
   λ c. let e = ap (λ (m : Mark). m .value) (one-degree mark-laws c at-top) in absurd (omega arith),
   (1, step (record { row = 1; word = paused; args = 0 ∷ []; place = 0; together = same 1; is = refl; in-args = omega arith; below = whole })),
@@ -162,10 +162,23 @@ occurs = (
     at-top : IsDegree markOperations eightWords (equated (rowed pausedItself) (between 0 1)) (gathered markOperations eightWords (equated (rowed pausedItself) (between 0 1)) (entry (1 ∷ 1 ∷ [])) 2)
     at-top = degree-is pausedItself 0 1 (1 ∷ 1 ∷ []) [] (refl, refl, refl, refl, refl, refl) (whole, (same 1, tt))
 
-clash : Clash markOperations eightWords (rowed gridDriver) (between 2 5)
-clash =
-    unlike-bottom mark-laws eight-words {p = 1} {q = 4} {f = grid} {g = driver} {xs = []} {ys = []}
-    (passed {p = 2} {q = 5} status status (0 ∷ 1 ∷ []) (3 ∷ 4 ∷ []) 1 (stated (between 2 5) (List·Memᴰ·head refl)) refl refl refl (omega arith)) refl refl (same-mark _ _ refl)
+clash : ClashOfWords
+clash = (
+  unlike,
+  (3, step (record { row = 3; word = paused; args = 0 ∷ []; place = 0; together = same 3; is = refl; in-args = omega arith; below = first })),
+  λ o. o .0 unlike,
+)
+  where
+    whole : Closure (equated (rowed gridDriver) (between 2 5)) 2 5
+    whole = stated (between 2 5) (List·Memᴰ·head refl)
+
+    first : Closure (equated (rowed gridDriver) (between 2 5)) 0 3
+    first = passed {p = 2} {q = 5} status status (0 ∷ 1 ∷ []) (3 ∷ 4 ∷ []) 0 whole refl refl refl (omega arith)
+
+    unlike : Clash markOperations eightWords (rowed gridDriver) (between 2 5)
+    unlike =
+        unlike-bottom mark-laws eight-words {p = 1} {q = 4} {f = grid} {g = driver} {xs = []} {ys = []}
+        (passed {p = 2} {q = 5} status status (0 ∷ 1 ∷ []) (3 ∷ 4 ∷ []) 1 whole refl refl refl (omega arith)) refl refl (same-mark _ _ refl)
 
 pub worked-examples : WorkedExamples
 worked-examples =
@@ -177,5 +190,4 @@ worked-examples =
       variables = variables;
       occurs = occurs;
       clash = clash;
-      no-occurs = λ o. o .0 clash;
     }

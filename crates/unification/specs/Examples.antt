@@ -113,14 +113,37 @@ twoVariables = variable 1 ∷ variable 2 ∷ []
 abbrev pub binds : ℕ → Term → Binding
 binds x t = record { label = x; value = t }
 
+abbrev pub AlikeWords : Type 0
+AlikeWords = Matches pausedSuspended 3 7 800 (binds 1 (constant c2) ∷ binds 2 (constant grid) ∷ [])
+
+-- Of the words in a class the one of the lowest row is given.
+abbrev pub GridFirst : Type 0
+GridFirst = Matches (twice grid mains) 1 4 900 (binds 1 (constant grid) ∷ [])
+
+abbrev pub MainsFirst : Type 0
+MainsFirst = Matches (twice mains grid) 1 4 900 (binds 1 (constant mains) ∷ [])
+
+abbrev pub Nested : Type 0
+Nested = Matches pausedEnded 1 6 300 (binds 1 (app paused (cons (constant driver) nil)) ∷ binds 2 (constant driver) ∷ [])
+
+abbrev pub Variables : Type 0
+Variables = Matches twoVariables 0 1 1000 (binds 1 (var 1) ∷ binds 2 (var 1) ∷ [])
+
+abbrev pub OccursInItself : Type 0
+OccursInItself = Occurs markOperations eightWords (rowed pausedItself) (between 0 1)
+
+-- There is a cycle too, but the clash comes first.
+abbrev pub ClashOfWords : Type 0
+ClashOfWords =
+    Clash markOperations eightWords (rowed gridDriver) (between 2 5)
+    × Cycle (equated (rowed gridDriver) (between 2 5))
+    × (Occurs markOperations eightWords (rowed gridDriver) (between 2 5) → ⊥)
+
 pub record WorkedExamples : Type 0 where
-  pub alike-words : Matches pausedSuspended 3 7 800 (binds 1 (constant c2) ∷ binds 2 (constant grid) ∷ [])
-  -- of the words in a class the one of the lowest row is given
-  pub grid-first : Matches (twice grid mains) 1 4 900 (binds 1 (constant grid) ∷ [])
-  pub mains-first : Matches (twice mains grid) 1 4 900 (binds 1 (constant mains) ∷ [])
-  pub nested : Matches pausedEnded 1 6 300 (binds 1 (app paused (cons (constant driver) nil)) ∷ binds 2 (constant driver) ∷ [])
-  pub variables : Matches twoVariables 0 1 1000 (binds 1 (var 1) ∷ binds 2 (var 1) ∷ [])
-  pub occurs : Occurs markOperations eightWords (rowed pausedItself) (between 0 1)
-  -- there is a cycle too, but the clash comes first
-  pub clash : Clash markOperations eightWords (rowed gridDriver) (between 2 5)
-  pub no-occurs : Occurs markOperations eightWords (rowed gridDriver) (between 2 5) → ⊥
+  pub alike-words : AlikeWords
+  pub grid-first : GridFirst
+  pub mains-first : MainsFirst
+  pub nested : Nested
+  pub variables : Variables
+  pub occurs : OccursInItself
+  pub clash : ClashOfWords

@@ -44,7 +44,8 @@ module _ {D : Type 0} (S : Operations D) (V : Words D) where
   abbrev pub Possible : Sheet → Type 0
   Possible s = (σ : ℕ → Term) × IsSubstitution V σ × (suits S V s σ ≡ S .bottom → ⊥)
 
--- σ is a most general unifier: it makes both sides of each equation equal, and every other that does is an instance of it.
+-- σ is a most general unifier: it makes both sides of each equation equal, and every θ that does is an instance of it, since θ gives each
+-- variable what it makes of σ's term.
 pub record IsMostGeneral {D : Type 0} (V : Words D) (s : Sheet) (σ : ℕ → Term) : Type 0 where
   pub unifies : Unifies s σ
   pub instance : (θ : ℕ → Term) → IsSubstitution V θ → Unifies s θ → Below 100 (λ x. θ x ≡ apply θ (σ x))
