@@ -1,1 +1,11 @@
 pub mod Terms
+pub mod Substitutions
+pub mod Similarity
+pub mod Classes
+pub mod Sheets
+pub mod Closures
+pub mod Solutions
+pub mod Tables
+pub mod Theorems
+pub mod EightWords
+pub mod Examples
