@@ -4,6 +4,7 @@ use Prim.Native.Nat.{ℕ, zero, suc, _≤_, _<_, _/_, _%_, _^_, min}
 use native.Mathlib.Nat.{min-comm, min-eq-left, min-eq-right, zero-min, mod-eq-of-lt, pow-suc}
 use native.Mathlib.Omega.{arith}
 use lib.Bits.{bitAnd, and-comm, and-self, and-zero-l, and-step, and-mask}
+use Rattle.std.proofs.shelf.Tests.{eq-eqb, eqb-true}
 use Rattle.scale.specs.Degrees.{markOperations, lineOperations}
 use Rattle.scale.specs.Scales.{IsScale}
 use Rattle.scale.specs.declared.lines.Lines.{Lines}
@@ -39,6 +40,7 @@ mark-laws =
       unit = λ a. same-mark _ _ (min-eq-right (a .ok));
       zero = λ a. same-mark _ _ (zero-min (a .value));
       apart = λ e. let f = ap (λ (m : Mark). m .value) e in omega arith;
+      exact = λ a b. (λ e. same-mark a b (eqb-true _ _ e), λ e. eq-eqb _ _ (ap (λ (m : Mark). m .value) e));
     }
 
 pub line-laws : IsScale lineOperations
@@ -50,4 +52,5 @@ line-laws =
       unit = λ a. same-lines _ _ (and-comm 65535 (a .set) ∙ (and-mask (a .set) 16 ∙ mod-eq-of-lt (omega (arith, a .ok))));
       zero = λ a. same-lines _ _ (and-zero-l (a .set));
       apart = λ e. let f = ap (λ (l : Lines). l .set) e in omega arith;
+      exact = λ a b. (λ e. same-lines a b (eqb-true _ _ e), λ e. eq-eqb _ _ (ap (λ (l : Lines). l .set) e));
     }

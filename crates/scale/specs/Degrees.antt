@@ -3,6 +3,7 @@ use Prim.Native.Nat.{ℕ, _≤_, _<_, min}
 use native.Mathlib.Omega.{arith}
 use native.Mathlib.Nat.{min-le-left, le-trans}
 use lib.Bits.{bitAnd, and-le-l}
+use lib.Dec.{eqb}
 use Rattle.std.proofs.shelf.Tests.{cases-lt}
 use Rattle.std.specs.declared.option.Option.{Option}
 use Rattle.std.specs.declared.option.Option.the-variants.{None, Some}
@@ -29,6 +30,7 @@ markOperations =
       top = record { value = 1000; ok = omega arith };
       bottom = record { value = 0; ok = omega arith };
       meet = λ a b. record { value = min (a .value) (b .value); ok = le-trans (min-le-left (a .value) (b .value)) (a .ok) };
+      same = λ a b. eqb (a .value) (b .value);
       decoded = markOf;
     }
 
@@ -39,5 +41,6 @@ lineOperations =
       top = record { set = 65535; ok = omega arith };
       bottom = record { set = 0; ok = omega arith };
       meet = λ a b. record { set = bitAnd (a .set) (b .set); ok = le-trans (and-le-l (a .set) (b .set)) (a .ok) };
+      same = λ a b. eqb (a .set) (b .set);
       decoded = linesOf;
     }

@@ -1,4 +1,5 @@
 // Degrees of likeness: what a scale is, and the two scales of the depot. It knows nothing of words.
+mod coded;
 mod fault;
 mod lines;
 mod lines_scale;
@@ -7,6 +8,8 @@ mod mark_scale;
 mod offer;
 mod scale;
 
+pub use coded::LinesCoded;
+pub use coded::MarkCoded;
 pub use fault::DegreeCause;
 pub use fault::DegreeFault;
 pub use fault::DegreeFaultDebug;
@@ -14,12 +17,10 @@ pub use fault::DegreeFaultPartialEq;
 pub use lines::Lines;
 pub use lines::LinesDebug;
 pub use lines::LinesPartialEq;
-pub use lines_scale::LinesCoded;
 pub use lines_scale::LinesScale;
 pub use mark::Mark;
 pub use mark::MarkDebug;
 pub use mark::MarkPartialEq;
-pub use mark_scale::MarkCoded;
 pub use mark_scale::MarkScale;
 pub use offer::at_most;
 pub use offer::degree_of;

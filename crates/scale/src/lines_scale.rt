@@ -1,5 +1,4 @@
 use crate::lines::Lines;
-use crate::scale::Coded;
 use crate::scale::Scale;
 ghost use Rattle.scale.specs.Degrees.{lineOperations};
 
@@ -22,18 +21,10 @@ pub impl Scale for Lines as LinesScale {
     }
 
     fn same(self, other: Lines) -> bool {
-        other.set == self.set
+        self.set == other.set
     }
 
     fn from_code(code: u16) -> Option<Lines> {
         Some(Lines { set: code })
-    }
-}
-
-pub impl Coded for Lines as LinesCoded {
-    ghost number = { λ l. l .set };
-
-    fn code(self) -> u16 {
-        self.set
     }
 }

@@ -1,5 +1,4 @@
 use crate::mark::Mark;
-use crate::scale::Coded;
 use crate::scale::Scale;
 ghost use Rattle.scale.specs.Degrees.{markOperations};
 
@@ -22,7 +21,7 @@ pub impl Scale for Mark as MarkScale {
     }
 
     fn same(self, other: Mark) -> bool {
-        other.value == self.value
+        self.value == other.value
     }
 
     fn from_code(code: u16) -> Option<Mark> {
@@ -30,13 +29,5 @@ pub impl Scale for Mark as MarkScale {
             return None;
         }
         Some(Mark { value: code })
-    }
-}
-
-pub impl Coded for Mark as MarkCoded {
-    ghost number = { λ m. m .value };
-
-    fn code(self) -> u16 {
-        self.value
     }
 }

@@ -23,7 +23,8 @@ pub trait Scale: Copy {
 
     /// Whether the two degrees are equal.
     fn same(self, other: Self) -> bool
-        ensures { λ r. ⌜ Decides r (self ≡ other) ⌝ };
+        ensures value { λ r. ⌜ r ≡ operations .same self other ⌝ }
+        ensures test { λ r. ⌜ Decides r (self ≡ other) ⌝ };
 
     /// The degree that the number is the code of, if any.
     fn from_code(code: u16) -> Option<Self>

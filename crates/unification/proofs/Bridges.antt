@@ -15,7 +15,7 @@ use Rattle.unification.specs.Sheets.{Row, variable, composed, Equation, Sheet,
 use Rattle.unification.specs.Tables.{IsClosed, Represents}
 use Rattle.unification.proofs.Depths.{closure-rows}
 use Rattle.unification.proofs.Numberings.{at-hand}
-use Rattle.unification.proofs.Orders.{le-trans, bottom-le, le-of-eq}
+use Rattle.scale.proofs.Orders.{le-trans, bottom-le, le-of-eq}
 use Rattle.unification.proofs.Tables.{closed-closure}
 
 -- What stands at a position is a member, and a member stands at one.

@@ -6,7 +6,7 @@ use Prim.Native.Nat.{ℕ}
 use Rattle.scale.specs.Scales.{Operations, IsScale, AtMost}
 use Rattle.vocabulary.specs.Words.{Words, IsVocabulary}
 use Rattle.unification.specs.Classes.{Member, likenessTo, likenessBetween, classDegree, InPairs, ClassDegrees}
-use Rattle.unification.proofs.Orders.{le-trans, le-anti, le-top, meet-left, meet-right, meet-glb, le-of-eq}
+use Rattle.scale.proofs.Orders.{le-trans, le-anti, le-top, meet-left, meet-right, meet-glb, le-of-eq}
 
 module _ {D : Type 0} {S : Operations D} (L : IsScale S) {V : Words D} (W : IsVocabulary S V) where
   to-each : (f g : ℕ) (gs : List ℕ) → Member g gs → AtMost S (likenessTo S V f gs) (V .likeness f g)

@@ -10,7 +10,7 @@ use Rattle.unification.specs.Similarity.{alike, allAlike, Crisp}
 use Rattle.unification.specs.Solutions.{IsBest, IsMostGeneral}
 use Rattle.unification.specs.Substitutions.{apply, IsSubstitution}
 use Rattle.unification.specs.Terms.{Term, Terms, var, app, nil, cons}
-use Rattle.unification.proofs.Orders.{le-trans, le-anti, le-bottom, le-top, meet-left, meet-right}
+use Rattle.scale.proofs.Orders.{le-trans, le-anti, le-bottom, le-top, meet-left, meet-right}
 use Rattle.unification.proofs.Reading.{formed-apply, formed-term}
 use Rattle.unification.proofs.Similarity.{same-le}
 use Rattle.unification.proofs.Unifiers.{suits-one, suits-each}

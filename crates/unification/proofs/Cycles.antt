@@ -12,7 +12,7 @@ use Rattle.unification.specs.Sheets.{Sheet, IsSheet, term, suits}
 use Rattle.unification.specs.Substitutions.{apply, IsSubstitution}
 use Rattle.unification.specs.Terms.{Term}
 use Rattle.unification.proofs.Heights.{height, height-place, unlike-height}
-use Rattle.unification.proofs.Orders.{le-trans, le-of-eq, le-bottom}
+use Rattle.scale.proofs.Orders.{le-trans, le-of-eq, le-bottom}
 use Rattle.unification.proofs.Reading.{apply-composed}
 use Rattle.unification.proofs.Unifiers.{closure-alike, suits-degree}
 

@@ -11,7 +11,7 @@ use Rattle.vocabulary.specs.Words.{Words}
 use Rattle.unification.specs.Sheets.{termsOf}
 use Rattle.unification.specs.Similarity.{alike, allAlike}
 use Rattle.unification.specs.Terms.{Term, Terms, var, app, nil, cons}
-use Rattle.unification.proofs.Orders.{meet-bottom}
+use Rattle.scale.proofs.Orders.{meet-bottom}
 
 abbrev mutual
   pub height : Term → ℕ

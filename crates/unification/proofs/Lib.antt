@@ -1,4 +1,3 @@
-pub mod Orders
 pub mod Similarity
 pub mod Classes
 pub mod Reading

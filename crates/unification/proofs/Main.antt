@@ -17,7 +17,7 @@ use Rattle.unification.proofs.Cycles.{cycle-bottom, no-cycle, degree-above, de
 use Rattle.unification.proofs.Depths.{depth-or-cycle, depth-of}
 use Rattle.unification.proofs.Numberings.{representatives, represents}
 use Rattle.unification.proofs.Orderings.{order-free}
-use Rattle.unification.proofs.Orders.{le-trans, le-anti, le-of-eq, le-bottom}
+use Rattle.scale.proofs.Orders.{le-trans, le-anti, le-of-eq, le-bottom}
 use Rattle.unification.proofs.Reading.{terms-read}
 use Rattle.unification.proofs.Similarity.{similarity}
 use Rattle.unification.proofs.Solving.{one-representative, formed-solution, solved-suits, solved-general}

@@ -12,7 +12,7 @@ use Rattle.unification.specs.Sheets.{Row, variable, composed, Sheet, At, IsCoh
 use Rattle.unification.specs.Similarity.{alike, allAlike}
 use Rattle.unification.specs.Substitutions.{apply, applyAll}
 use Rattle.unification.specs.Terms.{Term, Terms, var, app, nil, cons, size, Formed, AllFormed}
-use Rattle.unification.proofs.Orders.{le-trans, meet-left, meet-right, meet-glb, le-top}
+use Rattle.scale.proofs.Orders.{le-trans, meet-left, meet-right, meet-glb, le-top}
 
 pub terms-same : (v w : ℕ → Term) (xs : List ℕ) → ((i : ℕ) → i < length xs → v (getD xs i 0) ≡ w (getD xs i 0)) → termsOf v xs ≡ termsOf w xs
 terms-same v w [] h = refl

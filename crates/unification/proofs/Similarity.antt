@@ -9,7 +9,7 @@ use Rattle.scale.specs.Scales.{Operations, IsScale, AtMost}
 use Rattle.vocabulary.specs.Words.{Words, IsVocabulary}
 use Rattle.unification.specs.Similarity.{alike, allAlike, IsSimilarity}
 use Rattle.unification.specs.Terms.{Term, Terms, var, app, nil, cons, Formed, AllFormed}
-use Rattle.unification.proofs.Orders.{le-trans, meet-left, meet-right, meet-glb, meet-mono, bottom-le, le-top, le-of-eq}
+use Rattle.scale.proofs.Orders.{le-trans, meet-left, meet-right, meet-glb, meet-mono, bottom-le, le-top, le-of-eq}
 
 eqb-sym : (x y : ℕ) → eqb x y ≡ eqb y x
 eqb-sym x y =

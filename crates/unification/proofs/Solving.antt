@@ -16,7 +16,7 @@ use Rattle.unification.specs.Substitutions.{apply, IsSubstitution}
 use Rattle.unification.specs.Tables.{IsSolvedBy, IsSolutionBy}
 use Rattle.unification.specs.Terms.{Term, var, app, Formed}
 use Rattle.unification.proofs.Heights.{height, height-place}
-use Rattle.unification.proofs.Orders.{le-trans, le-anti, meet-glb, le-top, le-of-eq, bottom-le}
+use Rattle.scale.proofs.Orders.{le-trans, le-anti, meet-glb, le-top, le-of-eq, bottom-le}
 use Rattle.unification.proofs.Reading.{at-within, within-at, term-variable, apply-composed, apply-terms, size-terms, formed-terms, all-places}
 use Rattle.unification.proofs.Similarity.{same-le, turn-le, chain-le}
 use Rattle.unification.proofs.Unifiers.{closure-alike, suits-degree, suits-each}

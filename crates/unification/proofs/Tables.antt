@@ -11,7 +11,7 @@ use Rattle.vocabulary.specs.Words.{Words, IsVocabulary}
 use Rattle.unification.specs.Closures.{Closure, stated, same, turned, joined, passed, kind, Representative, Bound, IsDegree}
 use Rattle.unification.specs.Sheets.{Row, variable, composed, Sheet, At}
 use Rattle.unification.specs.Tables.{IsClosed, IsStar, Represents, rowsAlike, gathered}
-use Rattle.unification.proofs.Orders.{le-trans, le-of-eq, le-top, meet-glb, meet-left, meet-right}
+use Rattle.scale.proofs.Orders.{le-trans, le-of-eq, le-top, meet-glb, meet-left, meet-right}
 use Rattle.unification.proofs.Reading.{at-within}
 use Rattle.unification.proofs.Solving.{one-representative}
 

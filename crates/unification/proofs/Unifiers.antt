@@ -10,7 +10,7 @@ use Rattle.unification.specs.Sheets.{Equation, Sheet, IsSheet, term, suitsAll,
 use Rattle.unification.specs.Similarity.{alike}
 use Rattle.unification.specs.Substitutions.{apply, IsSubstitution}
 use Rattle.unification.specs.Terms.{Term}
-use Rattle.unification.proofs.Orders.{le-trans, meet-left, meet-right, meet-glb, le-top}
+use Rattle.scale.proofs.Orders.{le-trans, meet-left, meet-right, meet-glb, le-top}
 use Rattle.unification.proofs.Reading.{apply-composed, formed-apply, formed-term, place-of}
 use Rattle.unification.proofs.Similarity.{same-le, turn-le, chain-le}
 

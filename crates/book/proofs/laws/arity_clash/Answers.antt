@@ -17,7 +17,7 @@ returns-then-not-same g c =
       fails = λ typed.
           false≢true
           (sym (c .if-not-same .taken) ∙
-          c .same .ensures .1
+          c .same .ensures .test .1
           (c .likeness .ensures ∙
           (typed (λ e. c .if-one-other .taken (one .1 ∙ (e ∙ sym (other .1)))) ∙ sym (c .bottom .ensures))));
       rows = c .loop-i .inv;
@@ -33,6 +33,6 @@ loop-j-again g c =
     below-more _ _ (c .loop-j .inv)
     (λ differ.
     elim (c .else-one-other .came) [
-      | else-one-other·by·then-one-other·else-not-same w ↦ sym (w .likeness .ensures) ∙ (w .same .ensures .0 (w .if-not-same .left) ∙ w .bottom .ensures)
+      | else-one-other·by·then-one-other·else-not-same w ↦ sym (w .likeness .ensures) ∙ (w .same .ensures .test .0 (w .if-not-same .left) ∙ w .bottom .ensures)
       | else-one-other·by·else-one-other w ↦ absurd (differ (sym (one .1) ∙ (w .if-one-other .left ∙ other .1)))
     ])

@@ -1,6 +1,6 @@
 use mathlib.Core.Path.{refl}
 use Rattle.scale.proofs.Degrees.{mark-code}
-use Rattle.scale.proofs.mark_scale.MarkCoded.code.Needs as need
+use Rattle.scale.proofs.coded.MarkCoded.code.Needs as need
 
 pub returns : need.returns
 returns c = record { value = refl; laws = mark-code }

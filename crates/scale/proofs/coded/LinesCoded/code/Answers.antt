@@ -1,6 +1,6 @@
 use mathlib.Core.Path.{refl}
 use Rattle.scale.proofs.Degrees.{lines-code}
-use Rattle.scale.proofs.lines_scale.LinesCoded.code.Needs as need
+use Rattle.scale.proofs.coded.LinesCoded.code.Needs as need
 
 pub returns : need.returns
 returns c = record { value = refl; laws = lines-code }
