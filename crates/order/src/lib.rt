@@ -1,0 +1,1 @@
+// What follows from the laws of a scale: the order of degrees. It knows nothing of words.

@@ -1,0 +1,1 @@
+// Family trees: words alike through their common ancestors, over any scale.
