@@ -1,0 +1,15 @@
+ghost use Rattle.fault.specs.Firsts.{Below};
+ghost use lib.ListN.{length, getD};
+ghost use mathlib.Core.Path.{_≡_};
+
+/// The first 128 entries, with `blank` in each place that the list leaves free.
+pub fn kept<T: Copy>(list: &[T], blank: T) -> [T; 128]
+    ensures size { λ r. ⌜ length r ≡ 128 ⌝ }
+    ensures entries { λ r. ⌜ Below 128 (λ i. getD r i blank ≡ getD (now (list .entry)) i blank) ⌝ }
+{
+    let mut entries = [blank; 128];
+    for i in 0..128 {
+        entries[i] = if i < list.len() { list[i] } else { blank };
+    }
+    entries
+}
