@@ -1,3 +1,4 @@
 pub mod Growth
 pub mod Laws
 pub mod Climbs
+pub mod Single

@@ -1,1 +1,13 @@
-// Family trees: words alike through their common ancestors, over any scale.
+// Family trees, over any scale: words alike through their common ancestors. It knows no text and no format.
+mod checks;
+mod fault;
+
+
+pub use checks::check;
+pub use fault::Flaw;
+pub use fault::FlawDebug;
+pub use fault::FlawPartialEq;
+pub use fault::TreeCause;
+pub use fault::TreeFault;
+pub use fault::TreeFaultDebug;
+pub use fault::TreeFaultPartialEq;
