@@ -14,11 +14,12 @@ use Rattle.fault.specs.Firsts.{Below}
 pub filled-more : {X : Type 0} (n : ℕ) (from to : List X) (i : ℕ) (x d : X) → i < n → x ≡ getD from i d
     → (length to ≡ n) × Below i (λ k. getD to k d ≡ getD from k d)
     → (length (set to i x) ≡ n) × Below (i + 1) (λ k. getD (set to i x) k d ≡ getD from k d)
-filled-more n from to i x d lt e (size, below) =
-    (length-set to i x ∙ size,
-      λ k h.
-        subst (λ y. getD (set to i y) k d ≡ getD from k d) (sym e)
-        (fill-by-more (λ j. getD from j d) to i d (omega arith) below k h))
+filled-more n from to i x d lt e (size, below) = (
+  length-set to i x ∙ size,
+  λ k h.
+      subst (λ y. getD (set to i y) k d ≡ getD from k d) (sym e)
+      (fill-by-more (λ j. getD from j d) to i d (omega arith) below k h),
+)
 
 -- Filled to its end, it has the other's entries at every place, if that is not longer.
 pub filled-all : {X : Type 0} (n : ℕ) (from to : List X) (d : X) → length to ≡ n → length from ≤ n

@@ -65,9 +65,10 @@ module _ {D : Type 0} (S : Operations D) (L : IsScale S) (F : Family) (H : IsFam
         is = ap (S .meet (degree S F f)) (p .is) ∙ sym (L .assoc (degree S F f) (p .left) (p .right));
       }
   raised f g d lf lg root (inr (apart, e)) =
-      inr
-      (λ a x y cx cy. let le = climb-le cy in let up = climb-up S F cx (λ e. omega arith) in apart a (up .0) y (up .1) cy,
-        ap (S .meet (degree S F f)) e ∙ meet-bottom L (degree S F f))
+      inr (
+        λ a x y cx cy. let le = climb-le cy in let up = climb-up S F cx (λ e. omega arith) in apart a (up .0) y (up .1) cy,
+        ap (S .meet (degree S F f)) e ∙ meet-bottom L (degree S F f),
+      )
 
   -- No word is above both a root and a lower word.
   root-apart : (f g : ℕ) → g < f → F .parent f ≡ f → Apart S F f g
@@ -80,9 +81,9 @@ module _ {D : Type 0} (S : Operations D) (L : IsScale S) (F : Family) (H : IsFam
       elim (cases-eq (F .parent k) k) [
         | inl e ↦ inr (root-apart k g lg e, like-root S L F (suc k) k g (omega arith) lg e)
         | inr root ↦
-          let le = H .lower k lk in
-          subst (λ (d : D). IsLikeness S F k g d) (sym (newest-left S F k g (λ e. omega arith)))
-          (raised k g _ lk lg root (below (omega arith)))
+            let le = H .lower k lk in
+            subst (λ (d : D). IsLikeness S F k g d) (sym (newest-left S F k g (λ e. omega arith)))
+            (raised k g _ lk lg root (below (omega arith)))
       ]
 
   self-likeness : (f : ℕ) → f < F .count → IsLikeness S F f f (S .top)
@@ -104,28 +105,29 @@ module _ {D : Type 0} (S : Operations D) (L : IsScale S) (F : Family) (H : IsFam
       by-newest S F k (λ f g. f < suc k → g < suc k → IsLikeness S F f g (likeBelow S F (suc k) f g))
       (λ lf lg. subst (λ (d : D). IsLikeness S F k k d) (sym (newest-self S F k)) (self-likeness k (omega arith)))
       (λ g ne lf lg.
-        newest-likeness k g (omega arith) (omega arith) (λ lp. likeness-below k (F .parent k) g (omega arith) lp (omega arith)))
+      newest-likeness k g (omega arith) (omega arith) (λ lp. likeness-below k (F .parent k) g (omega arith) lp (omega arith)))
       (λ f ne lf lg.
-        subst (λ (d : D). IsLikeness S F f k d) (like-symmetric S F (suc k) k f)
-        (turned-likeness S F L
-        (newest-likeness k f (omega arith) (omega arith) (λ lp. likeness-below k (F .parent k) f (omega arith) lp (omega arith)))))
+      subst (λ (d : D). IsLikeness S F f k d) (like-symmetric S F (suc k) k f)
+      (turned-likeness S F L
+      (newest-likeness k f (omega arith) (omega arith) (λ lp. likeness-below k (F .parent k) f (omega arith) lp (omega arith)))))
       (λ f g ne ne′ lf lg.
-        subst (λ (d : D). IsLikeness S F f g d) (sym (earlier S F k f g ne ne′))
-        (likeness-below k f g (omega arith) (omega arith) (omega arith)))
+      subst (λ (d : D). IsLikeness S F f g d) (sym (earlier S F k f g ne ne′))
+      (likeness-below k f g (omega arith) (omega arith) (omega arith)))
       f g lf lg
 
   -- What the function gives is the likeness.
-  pub tree-likeness : (f g : ℕ) → IsLikeness S F f g (likeBelow S F (F .count) f g)
+  tree-likeness : (f g : ℕ) → IsLikeness S F f g (likeBelow S F (F .count) f g)
   tree-likeness f g =
       elim (cases-lt f (F .count)) [
         | inl lf ↦
-          elim (cases-lt g (F .count)) [
-            | inl lg ↦ likeness-below (F .count) f g (omega arith) lf lg
-            | inr out ↦
-              inr
-              (λ a x y cx cy. let lg = climb-word S F cy in omega arith,
-                like-symmetric S F (F .count) f g ∙ like-outside S L F (F .count) g f out)
-          ]
+            elim (cases-lt g (F .count)) [
+              | inl lg ↦ likeness-below (F .count) f g (omega arith) lf lg
+              | inr out ↦
+                  inr (
+                    λ a x y cx cy. let lg = climb-word S F cy in omega arith,
+                    like-symmetric S F (F .count) f g ∙ like-outside S L F (F .count) g f out,
+                  )
+            ]
         | inr out ↦ inr (λ a x y cx cy. let lf = climb-word S F cx in omega arith, like-outside S L F (F .count) f g out)
       ]
 
@@ -139,8 +141,14 @@ module _ {D : Type 0} (S : Operations D) (L : IsScale S) (F : Family) (H : IsFam
       p .is ∙ (λ i. S .meet (a i) (b i)) ∙ sym (q .is)
 
   -- There is one likeness of two words.
-  pub likeness-only : {f g : ℕ} {d e : D} → IsLikeness S F f g d → IsLikeness S F f g e → d ≡ e
+  likeness-only : {f g : ℕ} {d e : D} → IsLikeness S F f g d → IsLikeness S F f g e → d ≡ e
   likeness-only (inl p) (inl q) = path-only p q
   likeness-only (inl p) (inr (apart, e)) = absurd (apart (p .summit) (p .left) (p .right) (p .from-left) (p .from-right))
   likeness-only (inr (apart, e)) (inl p) = absurd (apart (p .summit) (p .left) (p .right) (p .from-left) (p .from-right))
   likeness-only (inr (apart, e)) (inr (apart′, e′)) = e ∙ sym e′
+
+  -- The one likeness is what the function gives.
+  pub likeness-exact : (f g : ℕ) (r : D) → r ≡ likeBelow S F (F .count) f g
+      → IsLikeness S F f g r × ((d : D) → IsLikeness S F f g d → d ≡ r)
+  likeness-exact f g r e =
+      let path = subst (λ (d : D). IsLikeness S F f g d) (sym e) (tree-likeness f g) in (path, λ d p. likeness-only p path)

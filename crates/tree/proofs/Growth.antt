@@ -1,14 +1,11 @@
 -- How the likeness among the words below a number grows with each word, and the laws that it keeps.
-use mathlib.Core.Bool.{cond}
 use mathlib.Core.Logic.{_⊎_, inl, inr}
 use mathlib.Core.Path.{_≡_, refl, sym, ap, subst, _∙_}
-use Prim.Native.Nat.{ℕ, zero, suc, _<_, _≤_}
+use Prim.Native.Nat.{ℕ, zero, suc, _<_, _≤_, min, max}
 use native.Mathlib.Omega.{arith}
-use lib.Dec.{eqb}
 use Rattle.std.proofs.shelf.Tests.{cases-eq, cases-lt, eq-eqb, ne-eqb, cond-true, cond-false}
-use Rattle.fault.specs.Firsts.{Below}
-use Rattle.scale.specs.Scales.{Operations, IsScale, AtMost}
-use Rattle.order.proofs.Orders.{le-refl, le-trans, le-top, bottom-le, meet-left, meet-right, meet-glb, meet-mono, le-of-eq, meet-bottom}
+use Rattle.scale.specs.Scales.{Operations, IsScale}
+use Rattle.order.proofs.Orders.{le-top, meet-bottom}
 use Rattle.tree.specs.Families.{Family}
 use Rattle.tree.specs.Paths.{degree, likeBelow}
 
@@ -40,15 +37,15 @@ module _ {D : Type 0} (S : Operations D) (F : Family) where
   by-newest k P self left right other f g =
       elim (cases-eq f k) [
         | inl e ↦
-          elim (cases-eq g k) [
-            | inl e′ ↦ subst (λ (x : ℕ). P x g) (sym e) (subst (λ (y : ℕ). P k y) (sym e′) self)
-            | inr ne′ ↦ subst (λ (x : ℕ). P x g) (sym e) (left g ne′)
-          ]
+            elim (cases-eq g k) [
+              | inl e′ ↦ subst (λ (x : ℕ). P x g) (sym e) (subst (λ (y : ℕ). P k y) (sym e′) self)
+              | inr ne′ ↦ subst (λ (x : ℕ). P x g) (sym e) (left g ne′)
+            ]
         | inr ne ↦
-          elim (cases-eq g k) [
-            | inl e′ ↦ subst (λ (y : ℕ). P f y) (sym e′) (right f ne)
-            | inr ne′ ↦ other f g ne ne′
-          ]
+            elim (cases-eq g k) [
+              | inl e′ ↦ subst (λ (y : ℕ). P f y) (sym e′) (right f ne)
+              | inr ne′ ↦ other f g ne ne′
+            ]
       ]
 
   pub like-symmetric : (k f g : ℕ) → likeBelow S F k f g ≡ likeBelow S F k g f
@@ -82,10 +79,10 @@ module _ {D : Type 0} (S : Operations D) (L : IsScale S) (F : Family) where
   like-outside (suc k) f g h =
       elim (cases-eq g k) [
         | inl e ↦
-          subst (λ (y : ℕ). likeBelow S F (suc k) f y ≡ S .bottom) (sym e)
-          (newest-right S F k f (λ e′. omega arith)
-          ∙ ap (S .meet (degree S F k)) (like-symmetric S F k (F .parent k) f ∙ like-outside k f (F .parent k) (omega arith))
-          ∙ meet-bottom L (degree S F k))
+            subst (λ (y : ℕ). likeBelow S F (suc k) f y ≡ S .bottom) (sym e)
+            (newest-right S F k f (λ e′. omega arith)
+            ∙ ap (S .meet (degree S F k)) (like-symmetric S F k (F .parent k) f ∙ like-outside k f (F .parent k) (omega arith))
+            ∙ meet-bottom L (degree S F k))
         | inr ne ↦ earlier S F k f g (λ e. omega arith) ne ∙ like-outside k f g (omega arith)
       ]
 
@@ -104,3 +101,44 @@ module _ {D : Type 0} (S : Operations D) (L : IsScale S) (F : Family) where
       ∙ newest-left S F f g (λ e. omega arith)
       ∙ ap (S .meet (degree S F f)) (ap (λ (p : ℕ). likeBelow S F f p g) e ∙ like-outside f f g (omega arith))
       ∙ meet-bottom L (degree S F f)
+
+  -- Of two words the higher one climbs.
+  ordered : (n f g high low : ℕ) → high ≡ max f g → low ≡ min f g → likeBelow S F n f g ≡ likeBelow S F n high low
+  ordered n f g high low eh el =
+      elim (cases-lt g f) [
+        | inl lt ↦
+            let a : f ≡ high = omega arith in
+            let b : g ≡ low = omega arith in
+            λ i. likeBelow S F n (a i) (b i)
+        | inr ge ↦
+            let a : g ≡ high = omega arith in
+            let b : f ≡ low = omega arith in
+            like-symmetric S F n f g ∙ (λ i. likeBelow S F n (a i) (b i))
+      ]
+
+  module _ (n f g high low : ℕ) (start d : D) (lf : f < n) (lg : g < n) (apart : f ≡ g → ⊥) (eh : high ≡ max f g) (el : low ≡ min f g)
+      (so-far : start ≡ S .meet d (likeBelow S F n f g)) where
+    -- To its parent.
+    pub like-turn : (link next : D) → link ≡ degree S F high → next ≡ S .meet d link → F .parent high ≤ high → (F .parent high ≡ high → ⊥)
+        → start ≡ S .meet next (likeBelow S F n (F .parent high) low)
+    like-turn link next is-link is-next lower root =
+        so-far
+        ∙ ap (S .meet d) (ordered n f g high low eh el ∙ like-step n high low (omega arith) (omega arith) (below (cases-lt (F .parent high) high)))
+        ∙ sym (L .assoc d (degree S F high) (likeBelow S F n (F .parent high) low))
+        ∙ ap (λ (x : D). S .meet x (likeBelow S F n (F .parent high) low)) (ap (S .meet d) (sym is-link) ∙ sym is-next)
+      where
+        below : (F .parent high < high) ⊎ (high ≤ F .parent high) → F .parent high < high
+        below (inl lt) = lt
+        below (inr ge) = absurd (root (omega arith))
+
+    -- A root that has not met the other word has no path to it.
+    pub like-halt : F .parent high ≡ high → start ≡ S .bottom
+    like-halt e =
+        so-far
+        ∙ ap (S .meet d) (ordered n f g high low eh el ∙ like-root n high low (omega arith) (omega arith) e)
+        ∙ meet-bottom L d
+
+  -- Where the two have met, nothing is left to meet.
+  pub like-met : (n f g : ℕ) (start d : D) → f < n → f ≡ g → start ≡ S .meet d (likeBelow S F n f g) → d ≡ start
+  like-met n f g start d lf e so-far =
+      sym (le-top L d) ∙ ap (S .meet d) (sym (like-self S F n f lf) ∙ ap (likeBelow S F n f) e) ∙ sym so-far

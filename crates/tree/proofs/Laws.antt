@@ -41,31 +41,31 @@ module _ {D : Type 0} (S : Operations D) (L : IsScale S) (F : Family) where
   like-transitive (suc k) f g h =
       elim (cases-eq h k) [
         | inl e ↦
-          subst (λ (w : ℕ). Through (suc k) f g w) (sym e)
-          (by-newest S F k (λ f g. Through (suc k) f g k)
-          (moved S L _ _ _ _ _ _ refl refl (newest-self S F k) (le-top L _))
-          (λ g ne. moved S L _ _ _ _ _ _ refl refl (newest-self S F k) (le-top L _))
-          (λ f ne. moved S L _ _ _ _ _ _ refl (newest-self S F k) refl (meet-left L _ _))
-          (λ f g ne ne′.
+            subst (λ (w : ℕ). Through (suc k) f g w) (sym e)
+            (by-newest S F k (λ f g. Through (suc k) f g k)
+            (moved S L _ _ _ _ _ _ refl refl (newest-self S F k) (le-top L _))
+            (λ g ne. moved S L _ _ _ _ _ _ refl refl (newest-self S F k) (le-top L _))
+            (λ f ne. moved S L _ _ _ _ _ _ refl (newest-self S F k) refl (meet-left L _ _))
+            (λ f g ne ne′.
             moved S L _ _ _ _ _ _ (earlier S F k f g ne ne′) (newest-right S F k g ne′) (newest-right S F k f ne)
             (met-right S L (degree S F k) _ _ _
             (moved S L _ _ _ _ _ _ refl (like-symmetric S F k (F .parent k) g) (like-symmetric S F k (F .parent k) f)
             (like-transitive k f g (F .parent k)))))
-          f g)
+            f g)
         | inr out ↦
-          by-newest S F k (λ f g. Through (suc k) f g h)
-          (moved S L _ _ _ _ _ _ (newest-self S F k) refl refl (meet-right L _ _))
-          (λ g ne.
+            by-newest S F k (λ f g. Through (suc k) f g h)
+            (moved S L _ _ _ _ _ _ (newest-self S F k) refl refl (meet-right L _ _))
+            (λ g ne.
             moved S L _ _ _ _ _ _ (newest-left S F k g ne) (earlier S F k g h ne out) (newest-left S F k h out)
             (met-left S L (degree S F k) _ _ _ (like-transitive k (F .parent k) g h)))
-          (λ f ne.
+            (λ f ne.
             moved S L _ _ _ _ _ _ (newest-right S F k f ne) (newest-left S F k h out) (earlier S F k f h ne out)
             (met-middle S L (degree S F k) _ _ _
             (moved S L _ _ _ _ _ _ (like-symmetric S F k (F .parent k) f) refl refl (like-transitive k f (F .parent k) h))))
-          (λ f g ne ne′.
+            (λ f g ne ne′.
             moved S L _ _ _ _ _ _ (earlier S F k f g ne ne′) (earlier S F k g h ne′ out) (earlier S F k f h ne out)
             (like-transitive k f g h))
-          f g
+            f g
       ]
 
 module _ {D : Type 0} (S : Operations D) (L : IsScale S) (F : Family) (H : IsFamily F) where
@@ -81,8 +81,8 @@ module _ {D : Type 0} (S : Operations D) (L : IsScale S) (F : Family) (H : IsFam
           elim (cases-eq (F .parent k) k) [
             | inl e ↦ ap (λ (p : ℕ). likeBelow S F k p g) e ∙ like-outside S L F k k g (omega arith)
             | inr ne ↦
-              let le = H .lower k lk in
-              below (omega arith) (λ e. other (sym (H .typed k lk) ∙ e))
+                let le = H .lower k lk in
+                below (omega arith) (λ e. other (sym (H .typed k lk) ∙ e))
           ]
 
   pub like-typed : (k f g : ℕ) → k ≤ F .count → f < k → g < k → (F .arity f ≡ F .arity g → ⊥) → likeBelow S F k f g ≡ S .bottom
@@ -91,13 +91,13 @@ module _ {D : Type 0} (S : Operations D) (L : IsScale S) (F : Family) (H : IsFam
       by-newest S F k (λ f g. f < suc k → g < suc k → (F .arity f ≡ F .arity g → ⊥) → likeBelow S F (suc k) f g ≡ S .bottom)
       (λ lf lg other. absurd (other refl))
       (λ g ne lf lg other.
-        newest-typed k g (omega arith) ne other (λ lp other′. like-typed k (F .parent k) g (omega arith) lp (omega arith) other′))
+      newest-typed k g (omega arith) ne other (λ lp other′. like-typed k (F .parent k) g (omega arith) lp (omega arith) other′))
       (λ f ne lf lg other.
-        like-symmetric S F (suc k) f k
-        ∙ newest-typed k f (omega arith) ne (λ e. other (sym e))
-        (λ lp other′. like-typed k (F .parent k) f (omega arith) lp (omega arith) other′))
+      like-symmetric S F (suc k) f k
+      ∙ newest-typed k f (omega arith) ne (λ e. other (sym e))
+      (λ lp other′. like-typed k (F .parent k) f (omega arith) lp (omega arith) other′))
       (λ f g ne ne′ lf lg other.
-        earlier S F k f g ne ne′ ∙ like-typed k f g (omega arith) (omega arith) (omega arith) other)
+      earlier S F k f g ne ne′ ∙ like-typed k f g (omega arith) (omega arith) (omega arith) other)
       f g lf lg other
 
   pub tree-laws : IsVocabulary S (treeWords S F)

@@ -2,3 +2,4 @@ pub mod Growth
 pub mod Laws
 pub mod Climbs
 pub mod Single
+pub mod Held

@@ -12,7 +12,12 @@ ghost use lib.ListN.{length};
 ghost use mathlib.Core.Path.{_≡_};
 
 /// Whether the word is fit: its arity, then its parent, then its code.
-fn check_word<S: Scale>(arities: &[u8], parents: &[u8], codes: &[u16], word: usize) -> Result<(), Flaw>
+fn check_word<S: Scale>(
+    arities: &[u8],
+    parents: &[u8],
+    codes: &[u16],
+    word: usize,
+) -> Result<(), Flaw>
     requires even { ⌜ Even (now arities) (now parents) (now codes) ⌝ }
     requires within { ⌜ word < length (now arities) ⌝ }
     ensures { λ r. ⌜ ByOk r

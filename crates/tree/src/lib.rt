@@ -1,7 +1,8 @@
 // Family trees, over any scale: words alike through their common ancestors. It knows no text and no format.
 mod checks;
 mod fault;
-
+mod table;
+mod tree;
 
 pub use checks::check;
 pub use fault::Flaw;
@@ -11,3 +12,5 @@ pub use fault::TreeCause;
 pub use fault::TreeFault;
 pub use fault::TreeFaultDebug;
 pub use fault::TreeFaultPartialEq;
+pub use tree::Tree;
+pub use tree::TreeVocabulary;

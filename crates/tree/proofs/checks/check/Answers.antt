@@ -8,7 +8,7 @@ use Rattle.tree.proofs.checks.check.Needs as need
 pub returns-in-Err : need.returns-in-Err
 returns-in-Err g c =
     let v
-      : Verdict (g .S·Scale .operations) (c .args .arities .now) (c .args .parents .now) (c .args .codes .now)
-        (Err (Word (c .loop-word .word) (c .in-Err .flaw)))
-      = search needs in
+    : Verdict (g .S·Scale .operations) (c .args .arities .now) (c .args .parents .now) (c .args .codes .now)
+    (Err (Word (c .loop-word .word) (c .in-Err .flaw)))
+    = search needs in
     record { verdict = v; only = λ w h. verdict-only (g .S·Scale .operations) _ _ _ w _ h v }
