@@ -30,13 +30,13 @@ module _ {D : Type 0} (S : Operations D) (L : IsScale S) (same : Discrete D) (d 
   left-through x y z h =
       dite (same (S .meet d x) d)
       (λ p.
-        dite (same (S .meet d y) d)
-        (λ q.
-          let a = left-stays x p in
-          let b = left-stays y q in
-          let c = left-stays z (le-trans L (meet-glb L p q) h) in
-          cc)
-        (λ n. lost (ap (S .meet (left S same d x)) (left-falls y n) ∙ meet-bottom L (left S same d x))))
+      dite (same (S .meet d y) d)
+      (λ q.
+      let a = left-stays x p in
+      let b = left-stays y q in
+      let c = left-stays z (le-trans L (meet-glb L p q) h) in
+      cc)
+      (λ n. lost (ap (S .meet (left S same d x)) (left-falls y n) ∙ meet-bottom L (left S same d x))))
       (λ n. lost (ap (λ (u : D). S .meet u (left S same d y)) (left-falls x n) ∙ L .zero (left S same d y)))
     where
       lost : {u : D} → u ≡ S .bottom → AtMost S u (left S same d z)
