@@ -1,0 +1,63 @@
+-- The layers together keep the laws of a vocabulary, and say what their lists say.
+use mathlib.Core.HLevel.{Discrete}
+use mathlib.Core.List.{List}
+use mathlib.Core.Path.{_≡_, sym, ap, subst, _∙_}
+use Prim.Native.Nat.{ℕ}
+use native.Mathlib.Omega.{arith}
+use lib.ListN.{length}
+use Rattle.std.specs.declared.result.Result.{Result}
+use Rattle.std.specs.declared.result.Result.the-variants.{Ok, Err}
+use Rattle.scale.specs.Scales.{Operations, IsScale}
+use Rattle.vocabulary.specs.Words.{IsVocabulary}
+use Rattle.layers.specs.Dialects.{IsDialect, listed, spoken}
+use Rattle.layers.specs.Floors.{floored}
+use Rattle.layers.specs.Tables.{tabled as entriesOf}
+use Rattle.layers.specs.Verdicts.{Verdict as DialectVerdict, Refused as NoDialect}
+use Rattle.layers.specs.declared.dialect.Dialect.{Dialect}
+use Rattle.layers.specs.declared.fault.DialectFault.{DialectFault}
+use Rattle.layers.specs.declared.floor.Floor.{Floor}
+use Rattle.layers.proofs.Floored.{floor-laws}
+use Rattle.layers.proofs.Spoken.{dialect-laws}
+use Rattle.tree.specs.Families.{family, IsTree}
+use Rattle.tree.specs.Paths.{treeWords}
+use Rattle.tree.specs.Tables.{tabled as familyOf}
+use Rattle.tree.specs.Verdicts.{Verdict as TreeVerdict}
+use Rattle.tree.specs.declared.fault.TreeFault.{TreeFault}
+use Rattle.tree.specs.declared.tree.Tree.{Tree}
+use Rattle.tree.proofs.Held.{tree-family}
+use Rattle.tree.proofs.Laws.{tree-laws}
+use Rattle.stack.specs.Stacks.{stackWords, Refused}
+use Rattle.stack.specs.declared.fault.StackFault.{StackFault}
+use Rattle.stack.specs.declared.fault.StackFault.the-variants.{Tree as OfTree, Dialect as OfDialect}
+
+module _ {D : Type 0} (S : Operations D) (same : Discrete D) (x y z : List ℕ) (floor : D) (list : List ℕ) where
+  pub stack-laws : IsScale S → IsTree S x y z → IsDialect (length x) list → IsVocabulary S (stackWords S same x y z floor list)
+  stack-laws L tree dialect =
+      dialect-laws S (listed list) (floored S same floor (treeWords S (family x y z))) L
+      (floor-laws S L same floor (treeWords S (family x y z)) (tree-laws S L (family x y z) (tree-family S x y z tree)))
+      (dialect .counted)
+
+  module _ (t : Tree D) (f : Floor (Tree D) D) (of-tree : familyOf (t .table) ≡ family x y z) (on-tree : f .below ≡ t) where
+    family-below : familyOf (f .below .table) ≡ family x y z
+    family-below = ap (λ (u : Tree D). familyOf (u .table)) on-tree ∙ of-tree
+
+    pub count-below : familyOf (f .below .table) .count ≡ length x
+    count-below = λ i. family-below i .count
+
+    pub stack-words : (d : Dialect (Floor (Tree D) D) D) → f .degree ≡ floor → d .below ≡ f → entriesOf (d .table) ≡ listed list
+        → spoken S (entriesOf (d .table)) (floored S same (d .below .degree) (treeWords S (familyOf (d .below .below .table))))
+        ≡ stackWords S same x y z floor list
+    stack-words d at-floor on-floor entries =
+        let degree = ap (λ (u : Floor (Tree D) D). u .degree) on-floor ∙ at-floor in
+        let family = ap (λ (u : Floor (Tree D) D). familyOf (u .below .table)) on-floor ∙ family-below in
+        λ i. spoken S (entries i) (floored S same (degree i) (treeWords S (family i)))
+
+-- Where both checks can only say yes, nothing is refused.
+pub none-refused : {D : Type 0} (S : Operations D) (x y z list : List ℕ) (n : ℕ) (u v : Unit {0}) → n ≡ length x
+    → ((w : Result (Unit {0}) TreeFault) → TreeVerdict S x y z w → w ≡ Ok u)
+    → ((w : Result (Unit {0}) DialectFault) → DialectVerdict n list w → w ≡ Ok v)
+    → (f : StackFault) → Refused S x y z list f → ⊥
+none-refused S x y z list n u v e tree dialect (OfTree fault) r =
+    let never = tree (Err fault) r in let z : _≡_ {A = ℕ} 0 1 = cc in omega arith
+none-refused S x y z list n u v e tree dialect (OfDialect fault) r =
+    let never = dialect (Err fault) (subst (λ (m : ℕ). NoDialect m list fault) (sym e) (r .1)) in let z : _≡_ {A = ℕ} 0 1 = cc in omega arith
