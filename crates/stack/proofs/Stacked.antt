@@ -52,12 +52,27 @@ module _ {D : Type 0} (S : Operations D) (same : Discrete D) (x y z : List ℕ) 
         let family = ap (λ (u : Floor (Tree D) D). familyOf (u .below .table)) on-floor ∙ family-below in
         λ i. spoken S (entries i) (floored S same (degree i) (treeWords S (family i)))
 
--- Where both checks can only say yes, nothing is refused.
-pub none-refused : {D : Type 0} (S : Operations D) (x y z list : List ℕ) (n : ℕ) (u v : Unit {0}) → n ≡ length x
-    → ((w : Result (Unit {0}) TreeFault) → TreeVerdict S x y z w → w ≡ Ok u)
-    → ((w : Result (Unit {0}) DialectFault) → DialectVerdict n list w → w ≡ Ok v)
-    → (f : StackFault) → Refused S x y z list f → ⊥
-none-refused S x y z list n u v e tree dialect (OfTree fault) r =
-    let never = tree (Err fault) r in let z : _≡_ {A = ℕ} 0 1 = cc in omega arith
-none-refused S x y z list n u v e tree dialect (OfDialect fault) r =
-    let never = dialect (Err fault) (subst (λ (m : ℕ). NoDialect m list fault) (sym e) (r .1)) in let z : _≡_ {A = ℕ} 0 1 = cc in omega arith
+-- What the checks say of their verdicts, told of the layers together: nothing else is refused.
+module _ {D : Type 0} (S : Operations D) (x y z list : List ℕ) where
+  pub tree-refused : (fault : TreeFault) → ((w : Result (Unit {0}) TreeFault) → TreeVerdict S x y z w → w ≡ Err fault)
+      → (f : StackFault) → Refused S x y z list f → OfTree fault ≡ f
+  tree-refused fault only (OfTree other) r = let same = only (Err other) r in cc
+  tree-refused fault only (OfDialect other) r =
+      let never = only (Ok tt) (r .0) in let clash : _≡_ {A = ℕ} 0 1 = cc in absurd (omega arith)
+
+  module _ (u : Unit {0}) (tree : (w : Result (Unit {0}) TreeFault) → TreeVerdict S x y z w → w ≡ Ok u) (n : ℕ) (e : n ≡ length x) where
+    pub dialect-refused : (fault : DialectFault) → ((w : Result (Unit {0}) DialectFault) → DialectVerdict n list w → w ≡ Err fault)
+        → (f : StackFault) → Refused S x y z list f → OfDialect fault ≡ f
+    dialect-refused fault only (OfTree other) r =
+        let never = tree (Err other) r in let clash : _≡_ {A = ℕ} 0 1 = cc in absurd (omega arith)
+    dialect-refused fault only (OfDialect other) r =
+        let same = only (Err other) (subst (λ (m : ℕ). NoDialect m list other) (sym e) (r .1)) in cc
+
+    pub none-refused : (v : Unit {0}) → ((w : Result (Unit {0}) DialectFault) → DialectVerdict n list w → w ≡ Ok v)
+        → (f : StackFault) → Refused S x y z list f → ⊥
+    none-refused v only (OfTree other) r =
+        let never = tree (Err other) r in let clash : _≡_ {A = ℕ} 0 1 = cc in omega arith
+    none-refused v only (OfDialect other) r =
+        let never = only (Err other) (subst (λ (m : ℕ). NoDialect m list other) (sym e) (r .1)) in
+        let clash : _≡_ {A = ℕ} 0 1 = cc in
+        omega arith

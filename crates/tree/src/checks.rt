@@ -38,7 +38,7 @@ fn check_word<S: Scale>(
 }
 
 /// Whether three lists, of arities, of parents and of codes of degrees, are a family tree.
-pub fn check<S: Scale>(arities: &[u8], parents: &[u8], codes: &[u16]) -> Result<(), TreeFault>
+pub fn check_tree<S: Scale>(arities: &[u8], parents: &[u8], codes: &[u16]) -> Result<(), TreeFault>
     ensures verdict { λ r. ⌜ Verdict (S·Scale .operations) (now (arities .entry)) (now (parents .entry)) (now (codes .entry)) r ⌝ }
     ensures only { λ r. ⌜ ((v : Result (Unit {0}) TreeFault) →
         Verdict (S·Scale .operations) (now (arities .entry)) (now (parents .entry)) (now (codes .entry)) v → v ≡ r) ⌝ }

@@ -4,7 +4,7 @@ mod fault;
 mod table;
 mod tree;
 
-pub use checks::check;
+pub use checks::check_tree;
 pub use fault::Flaw;
 pub use fault::FlawDebug;
 pub use fault::FlawPartialEq;

@@ -3,7 +3,7 @@ use Rattle.std.specs.declared.result.Result.the-variants.{Err}
 use Rattle.tree.specs.Verdicts.{Verdict}
 use Rattle.tree.specs.declared.fault.TreeFault.the-variants.{Word}
 use Rattle.tree.proofs.Single.{verdict-only}
-use Rattle.tree.proofs.checks.check.Needs as need
+use Rattle.tree.proofs.checks.check_tree.Needs as need
 
 pub returns-in-Err : need.returns-in-Err
 returns-in-Err g c =
