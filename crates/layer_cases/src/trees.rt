@@ -1,9 +1,6 @@
 use fault::Cause;
 use fault::Fault;
-use fault::FaultDebug;
-use fault::FaultPartialEq;
 use fault::Layer;
-use fault::LayerDebug;
 use fault::LayerPartialEq;
 use scale::Coded;
 use scale::Lines;

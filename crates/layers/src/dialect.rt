@@ -58,7 +58,7 @@ impl<V: Vocabulary> Dialect<V> {
         ensures laws { λ _. ⌜ IsVocabulary (Degree·Scale .operations) (V·Vocabulary .model (now (self .entry) .below)) ⌝ }
     {
         let count = self.below.count();
-        if word >= self.table.count as u16 {
+        if word as usize >= self.table.count as usize {
             return None;
         }
         let entry = self.table.entries[word as usize];

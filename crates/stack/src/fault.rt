@@ -42,8 +42,8 @@ pub impl Cause for StackFault as StackCause {
 
     fn fault(&self) -> Fault {
         match self {
-            StackFault::Tree(fault) => fault.fault(),
-            StackFault::Dialect(fault) => fault.fault(),
+            StackFault::Tree(cause) => cause.fault(),
+            StackFault::Dialect(cause) => cause.fault(),
         }
     }
 }

@@ -42,12 +42,13 @@ impl<S: Scale> Tree<S> {
         requires right { ⌜ g < now self .table .count ⌝ }
         ensures { λ r. ⌜ r ≡ likeBelow (S·Scale .operations) (tabled (now (self .entry) .table)) (now (self .entry) .table .count) f g ⌝ }
     {
+        let apart = S::bottom();
         let mut degree = S::top();
         while f != g {
             let high = f.max(g);
             let parent = self.table.parents[high as usize] as u16;
             if parent == high {
-                return S::bottom();
+                return apart;
             }
             degree = degree.meet(degree_of(self.table.codes[high as usize]));
             g = f.min(g);

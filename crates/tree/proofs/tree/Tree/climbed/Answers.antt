@@ -8,7 +8,7 @@ use Rattle.tree.proofs.tree.Tree.climbed.Needs as need
 
 pub returns-then-parent-high : need.returns-then-parent-high
 returns-then-parent-high g c =
-    c .bottom .ensures
+    c .bottom-apart .ensures
     ∙ sym
     (like-halt _ (g .S·Scale·met .lawful) (tabled (c .args .self .now .table)) _ _ _ _ _ _ _ (c .loop-f .inv .0) (c .loop-f .inv .1)
     (c .loop-f-test .taken) (c .max-high .ensures) refl (c .loop-f .inv .2) (c .if-parent-high .taken))
