@@ -52,6 +52,7 @@ impl<V: Vocabulary> Dialect<V> {
             },
         }
     }
+
     /// The word below that the word stands for; nothing for a number that is no word of the dialect.
     fn named(&self, word: u16) -> Option<u16>
         ensures value { λ r. ⌜ r ≡ known (now (self .entry) .table .count) (wordBelow (V·Vocabulary .model (now (self .entry) .below) .count) (tabled (now (self .entry) .table))) word ⌝ }

@@ -11,6 +11,9 @@ ghost use Rattle.tree.specs.declared.fault.TreeFault.{TreeFault};
 ghost use lib.ListN.{length};
 ghost use mathlib.Core.Path.{_≡_};
 
+/// The most arguments that a word may take.
+const MOST_ARGUMENTS: u8 = 6;
+
 /// Whether the word is fit: its arity, then its parent, then its code.
 fn check_word<S: Scale>(
     arities: &[u8],
@@ -24,7 +27,7 @@ fn check_word<S: Scale>(
         (λ _. Fit (S·Scale .operations) (family (now (arities .entry)) (now (parents .entry)) (now (codes .entry))) word)
         (Unfit (S·Scale .operations) (family (now (arities .entry)) (now (parents .entry)) (now (codes .entry))) word) ⌝ }
 {
-    if arities[word] > 6 {
+    if arities[word] > MOST_ARGUMENTS {
         return Err(Flaw::Arity);
     }
     let parent = parents[word] as usize;

@@ -1,3 +1,4 @@
+use lists::MOST_WORDS;
 ghost use Prim.Native.Nat.{_≤_};
 ghost use Rattle.fault.specs.Firsts.{Below};
 ghost use lib.ListN.{getD, length};
@@ -6,9 +7,9 @@ ghost use mathlib.Core.Path.{_≡_};
 /// The words of a family tree: arities of at most 6, and parents that are no higher and of the same arity.
 #[derive(Drop)]
 pub(crate) struct Table {
-    pub(crate) arities: [u8; 128],
-    pub(crate) parents: [u8; 128],
-    pub(crate) codes: [u16; 128],
+    pub(crate) arities: [u8; MOST_WORDS],
+    pub(crate) parents: [u8; MOST_WORDS],
+    pub(crate) codes: [u16; MOST_WORDS],
     pub(crate) count: u8,
     ghost arity_places: { length arities ≡ 128 },
     ghost parent_places: { length parents ≡ 128 },
