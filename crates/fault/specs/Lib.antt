@@ -1,3 +1,4 @@
 pub mod Layers
 pub mod Lines
+pub mod Places
 pub mod Firsts

@@ -1,11 +1,11 @@
 -- Marks and sets of lines are equal where their numbers are, and each is the one of its code.
-use mathlib.Core.HLevel.{isProp→PathP}
+use mathlib.Core.HLevel.{isProp→PathP, stable-paths→set}
 use mathlib.Core.Logic.{_⊎_, inl, inr, ⊎-elim}
 use mathlib.Core.Path.{_≡_, refl, ap, sym, _∙_}
 use Prim.Native.Nat.{ℕ, _≤_, _<_}
 use native.Mathlib.Bridge.{le-prop}
 use native.Mathlib.Omega.{arith}
-use Rattle.std.proofs.shelf.Tests.{cases-lt}
+use Rattle.std.proofs.shelf.Tests.{cases-eq, cases-lt}
 use Rattle.std.specs.declared.option.Option.{Option}
 use Rattle.std.specs.declared.option.Option.the-variants.{None, Some}
 use Rattle.scale.specs.Degrees.{codedUpTo, markOperations, lineOperations}
@@ -59,3 +59,16 @@ lines-code l =
       decodes = coded-within 65535 _ (l .set) (l .ok);
       only = λ n e. coded-only 65535 _ (λ l. l .set) (λ n h. refl) n l e;
     }
+
+-- Degrees that are told apart by a number are a set.
+numbered-set : {D : Type 0} (number : D → ℕ) → ((a b : D) → number a ≡ number b → a ≡ b) → IsSet D
+numbered-set number same =
+    stable-paths→set
+    (λ a b twice.
+    ⊎-elim (same a b) (λ differ. absurd (twice (λ e. differ (ap number e)))) (cases-eq (number a) (number b)))
+
+pub mark-set : IsSet Mark
+mark-set = numbered-set (λ m. m .value) same-mark
+
+pub lines-set : IsSet Lines
+lines-set = numbered-set (λ l. l .set) same-lines

@@ -35,9 +35,12 @@ pub trait Scale: Copy {
 
 /// A scale each of whose degrees has one code, the inverse of `from_code`.
 pub trait Coded: Scale {
+    ghost number: { Self → ℕ };
+
     /// The code of the degree.
     fn code(self) -> u16
-        ensures { λ r. ⌜ IsCode (Self·Scale .operations) self r ⌝ };
+        ensures value { λ r. ⌜ r ≡ number self ⌝ }
+        ensures laws { λ _. ⌜ ((d : Self) → IsCode (Self·Scale .operations) d (number d)) ⌝ };
 }
 
 pub impl Scale for Mark as MarkScale {
@@ -71,6 +74,8 @@ pub impl Scale for Mark as MarkScale {
 }
 
 pub impl Coded for Mark as MarkCoded {
+    ghost number = { λ m. m .value };
+
     fn code(self) -> u16 {
         self.value
     }
@@ -104,6 +109,8 @@ pub impl Scale for Lines as LinesScale {
 }
 
 pub impl Coded for Lines as LinesCoded {
+    ghost number = { λ l. l .set };
+
     fn code(self) -> u16 {
         self.set
     }

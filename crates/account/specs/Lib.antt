@@ -1,0 +1,6 @@
+pub mod Names
+pub mod Degrees
+pub mod Words
+pub mod Forms
+pub mod Laws
+pub mod Reports

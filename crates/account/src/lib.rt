@@ -1,0 +1,14 @@
+// What a translator reads of a book: an account of a good one, a sentence about a bad one. It prints nothing.
+mod degrees;
+mod forms;
+mod laws;
+mod names;
+mod report;
+mod words;
+
+pub use degrees::LinesTold;
+pub use degrees::MarkTold;
+pub use degrees::Told;
+pub use report::Report;
+pub use report::report_on;
+pub use words::account;

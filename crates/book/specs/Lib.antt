@@ -1,0 +1,4 @@
+pub mod Likeness
+pub mod Laws
+pub mod Faults
+pub mod Verdicts
