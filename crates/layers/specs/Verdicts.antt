@@ -1,12 +1,12 @@
 use mathlib.Core.List.{List}
 use mathlib.Core.Path.{_≡_}
-use Prim.Native.Nat.{ℕ, _<_, _*_}
+use Prim.Native.Nat.{ℕ, _<_}
 use lib.ListN.{length, getD}
 use Rattle.std.specs.declared.result.Result.{Result}
 use Rattle.std.specs.declared.result.Result.the-variants.{Ok, Err}
 use Rattle.fault.specs.Firsts.{First1}
+use Rattle.fault.specs.Places.{atWords}
 use Rattle.fault.specs.declared.fault.Fault.{Fault}
-use Rattle.fault.specs.declared.layer.Layer.the-variants.{Vocabulary}
 use Rattle.lists.specs.Counts.{Counted}
 use Rattle.layers.specs.Dialects.{IsDialect}
 use Rattle.layers.specs.declared.fault.DialectFault.{DialectFault}
@@ -22,7 +22,7 @@ abbrev pub Verdict : ℕ → List ℕ → Result (Unit {0}) DialectFault → Typ
 Verdict count list (Ok done) = IsDialect count list
 Verdict count list (Err fault) = Refused count list fault
 
--- Every refusal of a dialect is layer 1, number 10; its place tells the entry, and is 0 where it is about the whole list.
+-- Every refusal of a dialect is layer 1, number 10, at the entry, or at none where it is about the whole list.
 abbrev pub dialectRefusal : DialectFault → Fault
-dialectRefusal (Count n) = record { layer = Vocabulary; number = 10; place = 0 }
-dialectRefusal (Entry i) = record { layer = Vocabulary; number = 10; place = i * 16384 }
+dialectRefusal (Count n) = atWords 10 0 0 0
+dialectRefusal (Entry i) = atWords 10 i 0 0

@@ -1,6 +1,5 @@
 use fault::Cause;
 use fault::Fault;
-use fault::Layer;
 ghost use Rattle.layers.specs.Verdicts.{dialectRefusal};
 ghost use mathlib.Core.Path.{_≡_};
 
@@ -21,10 +20,6 @@ pub impl Cause for DialectFault as DialectCause {
             DialectFault::Count(_) => 0,
             DialectFault::Entry(entry) => *entry,
         };
-        Fault {
-            layer: Layer::Vocabulary,
-            number: 10,
-            place: entry as u32 * 16384,
-        }
+        Fault::at_words(10, entry, 0, 0)
     }
 }

@@ -14,10 +14,13 @@ use Rattle.tree.specs.Verdicts.{treeRefusal, Refused as NoTree}
 use Rattle.stack.specs.declared.fault.StackFault.{StackFault}
 use Rattle.stack.specs.declared.fault.StackFault.the-variants.{Tree, Dialect}
 
--- What a dialect over a floor over a family tree says, by the lists that it is made of.
+-- What a dialect over a floor over a vocabulary says.
+abbrev pub layered : {D : Type 0} → Operations D → Discrete D → Words D → D → List ℕ → Words D
+layered S same V floor entries = spoken S (listed entries) (floored S same floor V)
+
+-- What it says over a family tree, by the lists that all is made of.
 abbrev pub stackWords : {D : Type 0} → Operations D → Discrete D → List ℕ → List ℕ → List ℕ → D → List ℕ → Words D
-stackWords S same arities parents codes floor entries =
-    spoken S (listed entries) (floored S same floor (treeWords S (family arities parents codes)))
+stackWords S same arities parents codes floor entries = layered S same (treeWords S (family arities parents codes)) floor entries
 
 -- Why the lists make none: the tree is refused, or else the dialect over its words.
 abbrev pub Refused : {D : Type 0} → Operations D → List ℕ → List ℕ → List ℕ → List ℕ → StackFault → Type 0

@@ -1,14 +1,14 @@
 use mathlib.Core.Bool.{true}
 use mathlib.Core.List.{List}
 use mathlib.Core.Path.{_≡_}
-use Prim.Native.Nat.{ℕ, _*_, _≤_}
+use Prim.Native.Nat.{ℕ, _≤_}
 use lib.ListN.{length}
 use Rattle.std.specs.Options.{isSome}
 use Rattle.std.specs.declared.result.Result.{Result}
 use Rattle.std.specs.declared.result.Result.the-variants.{Ok, Err}
 use Rattle.fault.specs.Firsts.{First1}
+use Rattle.fault.specs.Places.{atWords}
 use Rattle.fault.specs.declared.fault.Fault.{Fault}
-use Rattle.fault.specs.declared.layer.Layer.the-variants.{Vocabulary}
 use Rattle.lists.specs.Counts.{Counted}
 use Rattle.scale.specs.Scales.{Operations}
 use Rattle.tree.specs.Families.{Family, family, Even, Descends, Fit, IsTree}
@@ -37,8 +37,8 @@ abbrev pub Verdict : {D : Type 0} → Operations D → List ℕ → List ℕ →
 Verdict S arities parents codes (Ok done) = IsTree S arities parents codes
 Verdict S arities parents codes (Err fault) = Refused S arities parents codes fault
 
--- Every refusal of a family tree is layer 1, number 9; its place tells the word, and is 0 where it is about the whole lists.
+-- Every refusal of a family tree is layer 1, number 9, at the word, or at none where it is about the whole lists.
 abbrev pub treeRefusal : TreeFault → Fault
-treeRefusal Lengths = record { layer = Vocabulary; number = 9; place = 0 }
-treeRefusal (Count n) = record { layer = Vocabulary; number = 9; place = 0 }
-treeRefusal (Word i flaw) = record { layer = Vocabulary; number = 9; place = i * 16384 }
+treeRefusal Lengths = atWords 9 0 0 0
+treeRefusal (Count n) = atWords 9 0 0 0
+treeRefusal (Word i flaw) = atWords 9 i 0 0

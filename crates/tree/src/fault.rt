@@ -1,6 +1,5 @@
 use fault::Cause;
 use fault::Fault;
-use fault::Layer;
 ghost use Rattle.tree.specs.Verdicts.{treeRefusal};
 ghost use mathlib.Core.Path.{_≡_};
 
@@ -34,10 +33,6 @@ pub impl Cause for TreeFault as TreeCause {
             TreeFault::Lengths | TreeFault::Count(_) => 0,
             TreeFault::Word(word, _) => *word,
         };
-        Fault {
-            layer: Layer::Vocabulary,
-            number: 9,
-            place: word as u32 * 16384,
-        }
+        Fault::at_words(9, word, 0, 0)
     }
 }
