@@ -1,4 +1,9 @@
 use crate::trees::marks;
+use book::BookFaultDebug;
+use book::Kind;
+use book::MarksBook;
+use book::MarksVocabulary;
+use book::check as check_book;
 use fault::Cause;
 use fault::Fault;
 use fault::Layer;
@@ -7,6 +12,7 @@ use layers::Dialect;
 use layers::DialectCause;
 use layers::DialectFault;
 use layers::DialectFaultDebug;
+use layers::DialectFaultPartialEq;
 use layers::DialectVocabulary;
 use layers::check_dialect;
 use scale::Coded;
@@ -14,10 +20,13 @@ use scale::DegreeFaultDebug;
 use scale::LinesCoded;
 use scale::LinesScale;
 use scale::MarkCoded;
+use scale::MarkPartialEq;
+use scale::MarkScale;
 use scale::offered;
 use stack::StackCause;
 use stack::StackFaultDebug;
 use stack::line_stack;
+use stack::marks_likeness;
 use std::test::*;
 use tree::FlawDebug;
 use tree::TreeFaultDebug;
@@ -115,4 +124,59 @@ fn refusals_of_the_layers() -> Result<(), Fail> {
     };
     check_eq(fault.fault().place, 16384)?;
     check_eq(fault.fault().number, 10)
+}
+
+/// Words a/0 and b/0, alike at 800.
+const BOOK: [u8; 19] = [
+    0,
+    17,
+    1,
+    1,
+    2,
+    0,
+    1,
+    b'a',
+    0,
+    1,
+    b'b',
+    3,
+    232,
+    3,
+    32,
+    3,
+    32,
+    3,
+    232,
+];
+
+#[test]
+fn over_a_book() -> Result<(), Fail> {
+    match check_book(&BOOK)? {
+        Kind::Lines => Err(Fail::new("a book of lines")),
+        Kind::Marks => {
+            let book = MarksBook::new(&BOOK);
+            // b, a and b again; 800 stays at a floor of 800 and falls at 801
+            let cases = [
+                (800, 0, 1, 800),
+                (801, 0, 1, 0),
+                (801, 0, 2, 1000),
+                (0, 1, 2, 800),
+                (0, 3, 0, 0),
+            ];
+            for (floor, f, g, mark) in cases {
+                let likeness = marks_likeness(
+                    book,
+                    offered::<MarkScale>(floor)?,
+                    &[1, 0, 1],
+                    f,
+                    g,
+                )?;
+                check_eq(likeness.code(), mark)?;
+            }
+            check(
+                marks_likeness(book, offered::<MarkScale>(0)?, &[0, 2], 0, 0)
+                    == Err(DialectFault::Entry(1)),
+            )
+        }
+    }
 }

@@ -6,6 +6,16 @@ ghost use Rattle.layers.specs.Floors.{Cut, floored};
 ghost use Rattle.vocabulary.specs.Words.{IsVocabulary};
 ghost use mathlib.Core.Path.{_≡_};
 
+/// What a floor leaves of a likeness.
+fn left_of<S: Scale>(floor: S, likeness: S) -> S
+    ensures { λ r. ⌜ Cut (S·Scale .operations) floor likeness r ⌝ }
+{
+    if at_most(floor, likeness) {
+        return likeness;
+    }
+    S::bottom()
+}
+
 /// A floor: words that are not alike at least at its degree count as not alike at all.
 #[derive(Drop)]
 pub struct Floor<V: Vocabulary> {
@@ -41,10 +51,6 @@ pub impl<V: Vocabulary> Vocabulary for Floor<V> as FloorVocabulary {
         ensures laws { λ _. ⌜ IsVocabulary (Degree·Scale .operations) (floored (Degree·Scale .operations) (equal (V·Degree·row .coded)) (now (self .entry) .degree) (V·Vocabulary .model (now (self .entry) .below))) ⌝ }
         ensures cut { λ r. ⌜ Cut (Degree·Scale .operations) (now (self .entry) .degree) (V·Vocabulary .model (now (self .entry) .below) .likeness f g) r ⌝ }
     {
-        let likeness = self.below.likeness(f, g);
-        if at_most(self.degree, likeness) {
-            return likeness;
-        }
-        V::Degree::bottom()
+        left_of(self.degree, self.below.likeness(f, g))
     }
 }

@@ -52,7 +52,7 @@ module _ {D : Type 0} (S : Operations D) (same : Discrete D) (x y z : List ℕ) 
 
     pub stack-words : (d : Dialect (Floor (Tree D) D) D) → f .degree ≡ floor → d .below ≡ f → entriesOf (d .table) ≡ listed list
         → spoken S (entriesOf (d .table)) (floored S same (d .below .degree) (treeWords S (familyOf (d .below .below .table))))
-          ≡ stackWords S same x y z floor list
+        ≡ stackWords S same x y z floor list
     stack-words d at-floor on-floor entries =
         layered-words S same (λ (u : Tree D). treeWords S (familyOf (u .table))) t floor list f d on-tree at-floor on-floor entries
         ∙ (λ i. layered S same (treeWords S (of-tree i)) floor list)

@@ -26,7 +26,7 @@ pub fn layered_likeness<V: Vocabulary + Drop>(
 ) -> Result<V::Degree, DialectFault>
     ensures verdict { λ r. ⌜ ByOk r
         (λ d. IsDialect (V·Vocabulary .model below .count) (now (entries .entry))
-            × (d ≡ layered (Degree·Scale .operations) (equal (V·Degree·row .coded)) (V·Vocabulary .model below) floor (now (entries .entry)) .likeness f g))
+        × (d ≡ layered (Degree·Scale .operations) (equal (V·Degree·row .coded)) (V·Vocabulary .model below) floor (now (entries .entry)) .likeness f g))
         (NoDialect (V·Vocabulary .model below .count) (now (entries .entry))) ⌝ }
     ensures only { λ r. ⌜ ((v : DialectFault) → NoDialect (V·Vocabulary .model below .count) (now (entries .entry)) v → r ≡ Err v) ⌝ }
     ensures laws { λ r. ⌜ made r (λ _. IsVocabulary (Degree·Scale .operations)

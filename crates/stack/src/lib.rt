@@ -1,7 +1,8 @@
-// A dialect over a floor over a family tree: the layers together. It adds no rule of its own.
+// A dialect over a floor over a family tree, over a book, over any vocabulary: the layers together. It adds no rule of its own.
 mod any;
 mod fault;
-mod over;
+mod lines;
+mod marks;
 
 pub use any::layered_likeness;
 pub use fault::FromDialect;
@@ -10,4 +11,5 @@ pub use fault::StackCause;
 pub use fault::StackFault;
 pub use fault::StackFaultDebug;
 pub use fault::StackFaultPartialEq;
-pub use over::line_stack;
+pub use lines::line_stack;
+pub use marks::marks_likeness;

@@ -17,9 +17,10 @@ returns g c =
     (c .new-dialect .result) (c .new-floor .ensures .below) (c .new-floor .ensures .degree) (c .new-dialect .ensures .below)
     (c .new-dialect .ensures .words) in
     record {
-      verdict =
-        (subst (λ (n : ℕ). IsDialect n list) count (over .verdict),
-          c .likeness .ensures .value ∙ (λ i. words i .likeness (c .args .f) (c .args .g)));
+      verdict = (
+        subst (λ (n : ℕ). IsDialect n list) count (over .verdict),
+        c .likeness .ensures .value ∙ (λ i. words i .likeness (c .args .f) (c .args .g)),
+      );
       only = λ v h. absurd (dialect-fits list _ _ count _ (over .only) v h);
       laws = subst (IsVocabulary S) words (c .likeness .ensures .laws);
     }

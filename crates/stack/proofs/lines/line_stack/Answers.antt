@@ -9,7 +9,7 @@ use Rattle.layers.specs.Dialects.{IsDialect}
 use Rattle.layers.specs.Verdicts.{Refused as NoDialect}
 use Rattle.layers.specs.Equals.{equal}
 use Rattle.stack.proofs.Stacked.{stack-laws, count-below, stack-words, tree-refused, dialect-refused, none-refused}
-use Rattle.stack.proofs.over.line_stack.Needs as need
+use Rattle.stack.proofs.lines.line_stack.Needs as need
 
 pub returns : need.returns
 returns c =
