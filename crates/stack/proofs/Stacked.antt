@@ -30,6 +30,10 @@ use Rattle.stack.specs.Stacks.{layered, stackWords, Refused}
 use Rattle.stack.specs.declared.fault.StackFault.{StackFault}
 use Rattle.stack.specs.declared.fault.StackFault.the-variants.{Tree as OfTree, Dialect as OfDialect}
 
+-- What one vocabulary says, another that says the same says.
+pub said : {D : Type 0} (V W : Words D) (f g : ℕ) (r : D) → V ≡ W → r ≡ V .likeness f g → r ≡ W .likeness f g
+said V W f g r same e = e ∙ (λ i. same i .likeness f g)
+
 -- A dialect over a floor over a vocabulary says what these are made of.
 pub layered-words : {D V : Type 0} (S : Operations D) (same : Discrete D) (model : V → Words D) (below : V) (floor : D) (list : List ℕ)
     (f : Floor V D) (d : Dialect (Floor V D) D) → f .below ≡ below → f .degree ≡ floor → d .below ≡ f → entriesOf (d .table) ≡ listed list

@@ -1,9 +1,9 @@
-use mathlib.Core.Path.{ap, subst, _∙_}
+use mathlib.Core.Path.{ap, subst}
 use Prim.Native.Nat.{ℕ}
 use Rattle.layers.specs.Dialects.{IsDialect}
 use Rattle.layers.specs.Equals.{equal}
 use Rattle.vocabulary.specs.Words.{IsVocabulary}
-use Rattle.stack.proofs.Stacked.{layered-words, dialect-fits}
+use Rattle.stack.proofs.Stacked.{layered-words, said, dialect-fits}
 use Rattle.stack.proofs.any.layered_likeness.Needs as need
 
 pub returns : need.returns
@@ -19,7 +19,7 @@ returns g c =
     record {
       verdict = (
         subst (λ (n : ℕ). IsDialect n list) count (over .verdict),
-        c .likeness .ensures .value ∙ (λ i. words i .likeness (c .args .f) (c .args .g)),
+        said _ _ (c .args .f) (c .args .g) _ words (c .likeness .ensures .value),
       );
       only = λ v h. absurd (dialect-fits list _ _ count _ (over .only) v h);
       laws = subst (IsVocabulary S) words (c .likeness .ensures .laws);
