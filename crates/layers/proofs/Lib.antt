@@ -1,0 +1,2 @@
+pub mod Floored
+pub mod Spoken

@@ -1,0 +1,5 @@
+pub mod Equals
+pub mod Floors
+pub mod Dialects
+pub mod Tables
+pub mod Verdicts

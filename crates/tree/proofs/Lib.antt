@@ -1,0 +1,5 @@
+pub mod Growth
+pub mod Laws
+pub mod Climbs
+pub mod Single
+pub mod Held

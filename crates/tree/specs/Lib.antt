@@ -1,0 +1,4 @@
+pub mod Families
+pub mod Paths
+pub mod Verdicts
+pub mod Tables
