@@ -1,4 +1,3 @@
-pub mod Equals
 pub mod Floors
 pub mod Dialects
 pub mod Tables

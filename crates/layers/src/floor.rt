@@ -1,7 +1,6 @@
 use scale::Scale;
 use scale::at_most;
 use vocabulary::Vocabulary;
-ghost use Rattle.layers.specs.Equals.{equal};
 ghost use Rattle.layers.specs.Floors.{Cut, floored};
 ghost use Rattle.vocabulary.specs.Words.{IsVocabulary};
 ghost use mathlib.Core.Path.{_≡_};
@@ -36,7 +35,7 @@ impl<V: Vocabulary> Floor<V> {
 pub impl<V: Vocabulary> Vocabulary for Floor<V> as FloorVocabulary {
     type Degree = V::Degree;
 
-    ghost model = { λ t. floored (Degree·Scale .operations) (equal (V·Degree·row .coded)) (t .degree) (V·Vocabulary .model (t .below)) };
+    ghost model = { λ t. floored (Degree·Scale .operations) (t .degree) (V·Vocabulary .model (t .below)) };
 
     fn count(&self) -> u16 {
         self.below.count()
@@ -47,8 +46,8 @@ pub impl<V: Vocabulary> Vocabulary for Floor<V> as FloorVocabulary {
     }
 
     fn likeness(&self, f: u16, g: u16) -> V::Degree
-        ensures value { λ r. ⌜ r ≡ floored (Degree·Scale .operations) (equal (V·Degree·row .coded)) (now (self .entry) .degree) (V·Vocabulary .model (now (self .entry) .below)) .likeness f g ⌝ }
-        ensures laws { λ _. ⌜ IsVocabulary (Degree·Scale .operations) (floored (Degree·Scale .operations) (equal (V·Degree·row .coded)) (now (self .entry) .degree) (V·Vocabulary .model (now (self .entry) .below))) ⌝ }
+        ensures value { λ r. ⌜ r ≡ floored (Degree·Scale .operations) (now (self .entry) .degree) (V·Vocabulary .model (now (self .entry) .below)) .likeness f g ⌝ }
+        ensures laws { λ _. ⌜ IsVocabulary (Degree·Scale .operations) (floored (Degree·Scale .operations) (now (self .entry) .degree) (V·Vocabulary .model (now (self .entry) .below))) ⌝ }
         ensures cut { λ r. ⌜ Cut (Degree·Scale .operations) (now (self .entry) .degree) (V·Vocabulary .model (now (self .entry) .below) .likeness f g) r ⌝ }
     {
         left_of(self.degree, self.below.likeness(f, g))

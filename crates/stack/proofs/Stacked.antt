@@ -1,5 +1,4 @@
 -- The layers together keep the laws of a vocabulary, and say what their lists say.
-use mathlib.Core.HLevel.{Discrete}
 use mathlib.Core.List.{List}
 use mathlib.Core.Path.{_≡_, sym, ap, subst, _∙_}
 use Prim.Native.Nat.{ℕ}
@@ -35,19 +34,19 @@ pub said : {D : Type 0} (V W : Words D) (f g : ℕ) (r : D) → V ≡ W → r �
 said V W f g r same e = e ∙ (λ i. same i .likeness f g)
 
 -- A dialect over a floor over a vocabulary says what these are made of.
-pub layered-words : {D V : Type 0} (S : Operations D) (same : Discrete D) (model : V → Words D) (below : V) (floor : D) (list : List ℕ)
+pub layered-words : {D V : Type 0} (S : Operations D) (model : V → Words D) (below : V) (floor : D) (list : List ℕ)
     (f : Floor V D) (d : Dialect (Floor V D) D) → f .below ≡ below → f .degree ≡ floor → d .below ≡ f → entriesOf (d .table) ≡ listed list
-    → spoken S (entriesOf (d .table)) (floored S same (d .below .degree) (model (d .below .below))) ≡ layered S same (model below) floor list
-layered-words {D} {V} S same model below floor list f d on-below at-floor on-floor entries =
+    → spoken S (entriesOf (d .table)) (floored S (d .below .degree) (model (d .below .below))) ≡ layered S (model below) floor list
+layered-words {D} {V} S model below floor list f d on-below at-floor on-floor entries =
     let degree = ap (λ (u : Floor V D). u .degree) on-floor ∙ at-floor in
     let bottom = ap (λ (u : Floor V D). u .below) on-floor ∙ on-below in
-    λ i. spoken S (entries i) (floored S same (degree i) (model (bottom i)))
+    λ i. spoken S (entries i) (floored S (degree i) (model (bottom i)))
 
-module _ {D : Type 0} (S : Operations D) (same : Discrete D) (x y z : List ℕ) (floor : D) (list : List ℕ) where
-  pub stack-laws : IsScale S → IsTree S x y z → IsDialect (length x) list → IsVocabulary S (stackWords S same x y z floor list)
+module _ {D : Type 0} (S : Operations D) (x y z : List ℕ) (floor : D) (list : List ℕ) where
+  pub stack-laws : IsScale S → IsTree S x y z → IsDialect (length x) list → IsVocabulary S (stackWords S x y z floor list)
   stack-laws L tree dialect =
-      dialect-laws S (listed list) (floored S same floor (treeWords S (family x y z))) L
-      (floor-laws S L same floor (treeWords S (family x y z)) (tree-laws S L (family x y z) (tree-family S x y z tree)))
+      dialect-laws S (listed list) (floored S floor (treeWords S (family x y z))) L
+      (floor-laws S L floor (treeWords S (family x y z)) (tree-laws S L (family x y z) (tree-family S x y z tree)))
       (dialect .counted)
 
   module _ (t : Tree D) (f : Floor (Tree D) D) (of-tree : familyOf (t .table) ≡ family x y z) (on-tree : f .below ≡ t) where
@@ -55,11 +54,11 @@ module _ {D : Type 0} (S : Operations D) (same : Discrete D) (x y z : List ℕ) 
     count-below = ap (λ (u : Tree D). familyOf (u .table) .count) on-tree ∙ (λ i. of-tree i .count)
 
     pub stack-words : (d : Dialect (Floor (Tree D) D) D) → f .degree ≡ floor → d .below ≡ f → entriesOf (d .table) ≡ listed list
-        → spoken S (entriesOf (d .table)) (floored S same (d .below .degree) (treeWords S (familyOf (d .below .below .table))))
-        ≡ stackWords S same x y z floor list
+        → spoken S (entriesOf (d .table)) (floored S (d .below .degree) (treeWords S (familyOf (d .below .below .table))))
+        ≡ stackWords S x y z floor list
     stack-words d at-floor on-floor entries =
-        layered-words S same (λ (u : Tree D). treeWords S (familyOf (u .table))) t floor list f d on-tree at-floor on-floor entries
-        ∙ (λ i. layered S same (treeWords S (of-tree i)) floor list)
+        layered-words S (λ (u : Tree D). treeWords S (familyOf (u .table))) t floor list f d on-tree at-floor on-floor entries
+        ∙ (λ i. layered S (treeWords S (of-tree i)) floor list)
 
 -- Where the check of a dialect can only say yes, nothing is refused; where it can only refuse, nothing else is.
 module _ (list : List ℕ) (n m : ℕ) (e : n ≡ m) where

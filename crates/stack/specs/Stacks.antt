@@ -1,4 +1,3 @@
-use mathlib.Core.HLevel.{Discrete}
 use mathlib.Core.List.{List}
 use Prim.Native.Nat.{ℕ}
 use lib.ListN.{length}
@@ -15,12 +14,12 @@ use Rattle.stack.specs.declared.fault.StackFault.{StackFault}
 use Rattle.stack.specs.declared.fault.StackFault.the-variants.{Tree, Dialect}
 
 -- What a dialect over a floor over a vocabulary says.
-abbrev pub layered : {D : Type 0} → Operations D → Discrete D → Words D → D → List ℕ → Words D
-layered S same V floor entries = spoken S (listed entries) (floored S same floor V)
+abbrev pub layered : {D : Type 0} → Operations D → Words D → D → List ℕ → Words D
+layered S V floor entries = spoken S (listed entries) (floored S floor V)
 
 -- What it says over a family tree, by the lists that all is made of.
-abbrev pub stackWords : {D : Type 0} → Operations D → Discrete D → List ℕ → List ℕ → List ℕ → D → List ℕ → Words D
-stackWords S same arities parents codes floor entries = layered S same (treeWords S (family arities parents codes)) floor entries
+abbrev pub stackWords : {D : Type 0} → Operations D → List ℕ → List ℕ → List ℕ → D → List ℕ → Words D
+stackWords S arities parents codes floor entries = layered S (treeWords S (family arities parents codes)) floor entries
 
 -- Why the lists make none: the tree is refused, or else the dialect over its words.
 abbrev pub Refused : {D : Type 0} → Operations D → List ℕ → List ℕ → List ℕ → List ℕ → StackFault → Type 0

@@ -6,7 +6,6 @@ use layers::FloorVocabulary;
 use layers::check_dialect;
 use vocabulary::Vocabulary;
 ghost use Rattle.layers.specs.Dialects.{IsDialect};
-ghost use Rattle.layers.specs.Equals.{equal};
 ghost use Rattle.layers.specs.Verdicts.{Refused as NoDialect};
 ghost use Rattle.layers.specs.declared.fault.DialectFault.{DialectFault};
 ghost use Rattle.stack.specs.Stacks.{layered};
@@ -26,11 +25,11 @@ pub fn layered_likeness<V: Vocabulary + Drop>(
 ) -> Result<V::Degree, DialectFault>
     ensures verdict { λ r. ⌜ ByOk r
         (λ d. IsDialect (V·Vocabulary .model below .count) (now (entries .entry))
-        × (d ≡ layered (Degree·Scale .operations) (equal (V·Degree·row .coded)) (V·Vocabulary .model below) floor (now (entries .entry)) .likeness f g))
+        × (d ≡ layered (Degree·Scale .operations) (V·Vocabulary .model below) floor (now (entries .entry)) .likeness f g))
         (NoDialect (V·Vocabulary .model below .count) (now (entries .entry))) ⌝ }
     ensures only { λ r. ⌜ ((v : DialectFault) → NoDialect (V·Vocabulary .model below .count) (now (entries .entry)) v → r ≡ Err v) ⌝ }
     ensures laws { λ r. ⌜ made r (λ _. IsVocabulary (Degree·Scale .operations)
-        (layered (Degree·Scale .operations) (equal (V·Degree·row .coded)) (V·Vocabulary .model below) floor (now (entries .entry)))) ⌝ }
+        (layered (Degree·Scale .operations) (V·Vocabulary .model below) floor (now (entries .entry)))) ⌝ }
 {
     let floor = Floor::new(below, floor);
     check_dialect(&floor, entries)?;

@@ -11,11 +11,9 @@ use tree::Tree;
 use tree::TreeVocabulary;
 use tree::check_tree;
 ghost use Rattle.layers.specs.Dialects.{IsDialect, spoken};
-ghost use Rattle.layers.specs.Equals.{equal};
 ghost use Rattle.layers.specs.Floors.{floored};
 ghost use Rattle.layers.specs.Tables.{tabled as dialectTabled};
 ghost use Rattle.scale.specs.Degrees.{lineOperations};
-ghost use Rattle.scale.specs.contracts.lines.Lines.{the-row as lines-row};
 ghost use Rattle.stack.specs.Stacks.{Refused, stackWords};
 ghost use Rattle.stack.specs.declared.fault.StackFault.{StackFault};
 ghost use Rattle.std.specs.Results.{Cases as ByOk};
@@ -41,10 +39,10 @@ pub fn line_stack(
         (Refused lineOperations (now (arities .entry)) (now (parents .entry)) (now (codes .entry)) (now (entries .entry))) ⌝ }
     ensures only { λ r. ⌜ ((f : StackFault) → Refused lineOperations (now (arities .entry)) (now (parents .entry)) (now (codes .entry)) (now (entries .entry)) f → r ≡ Err f) ⌝ }
     ensures words { λ r. ⌜ made r (λ d.
-        spoken lineOperations (dialectTabled (d .table)) (floored lineOperations (equal (lines-row .coded)) (d .below .degree) (treeWords lineOperations (treeTabled (d .below .below .table))))
-        ≡ stackWords lineOperations (equal (lines-row .coded)) (now (arities .entry)) (now (parents .entry)) (now (codes .entry)) floor (now (entries .entry))) ⌝ }
+        spoken lineOperations (dialectTabled (d .table)) (floored lineOperations (d .below .degree) (treeWords lineOperations (treeTabled (d .below .below .table))))
+        ≡ stackWords lineOperations (now (arities .entry)) (now (parents .entry)) (now (codes .entry)) floor (now (entries .entry))) ⌝ }
     ensures laws { λ r. ⌜ made r (λ _. IsVocabulary lineOperations
-        (stackWords lineOperations (equal (lines-row .coded)) (now (arities .entry)) (now (parents .entry)) (now (codes .entry)) floor (now (entries .entry)))) ⌝ }
+        (stackWords lineOperations (now (arities .entry)) (now (parents .entry)) (now (codes .entry)) floor (now (entries .entry)))) ⌝ }
 {
     check_tree::<LinesScale>(arities, parents, codes)?;
     let floor = Floor::new(Tree::new(arities, parents, codes), floor);

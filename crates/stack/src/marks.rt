@@ -6,12 +6,10 @@ use scale::Mark;
 use scale::MarkScale;
 ghost use Rattle.book.specs.Likeness.{wordsOf};
 ghost use Rattle.layers.specs.Dialects.{IsDialect};
-ghost use Rattle.layers.specs.Equals.{equal};
 ghost use Rattle.layers.specs.Verdicts.{Refused as NoDialect};
 ghost use Rattle.layers.specs.declared.fault.DialectFault.{DialectFault};
 ghost use Rattle.layout.specs.Places.{countOf};
 ghost use Rattle.scale.specs.Degrees.{markOperations};
-ghost use Rattle.scale.specs.contracts.mark.Mark.{the-row as mark-row};
 ghost use Rattle.stack.specs.Stacks.{layered};
 ghost use Rattle.std.specs.Results.{Cases as ByOk};
 ghost use Rattle.std.specs.Vec.{made};
@@ -29,11 +27,11 @@ pub fn marks_likeness(
 ) -> Result<Mark, DialectFault>
     ensures verdict { λ r. ⌜ ByOk r
         (λ d. IsDialect (countOf (now (book .entry .layout .bytes))) (now (entries .entry))
-        × (d ≡ layered markOperations (equal (mark-row .coded)) (wordsOf markOperations (now (book .entry .layout .bytes))) floor (now (entries .entry)) .likeness f g))
+        × (d ≡ layered markOperations (wordsOf markOperations (now (book .entry .layout .bytes))) floor (now (entries .entry)) .likeness f g))
         (NoDialect (countOf (now (book .entry .layout .bytes))) (now (entries .entry))) ⌝ }
     ensures only { λ r. ⌜ ((v : DialectFault) → NoDialect (countOf (now (book .entry .layout .bytes))) (now (entries .entry)) v → r ≡ Err v) ⌝ }
     ensures laws { λ r. ⌜ made r (λ _. IsVocabulary markOperations
-        (layered markOperations (equal (mark-row .coded)) (wordsOf markOperations (now (book .entry .layout .bytes))) floor (now (entries .entry)))) ⌝ }
+        (layered markOperations (wordsOf markOperations (now (book .entry .layout .bytes))) floor (now (entries .entry)))) ⌝ }
 {
     layered_likeness(book, floor, entries, f, g)
 }

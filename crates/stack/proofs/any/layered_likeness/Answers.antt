@@ -1,7 +1,6 @@
 use mathlib.Core.Path.{ap, subst}
 use Prim.Native.Nat.{ℕ}
 use Rattle.layers.specs.Dialects.{IsDialect}
-use Rattle.layers.specs.Equals.{equal}
 use Rattle.vocabulary.specs.Words.{IsVocabulary}
 use Rattle.stack.proofs.Stacked.{layered-words, said, dialect-fits}
 use Rattle.stack.proofs.any.layered_likeness.Needs as need
@@ -13,7 +12,7 @@ returns g c =
     let over = c .in-Continue-check-dialect .ensures tt in
     let count = ap (λ v. g .V·Vocabulary .model v .count) (c .new-floor .ensures .below) in
     let words =
-    layered-words S (equal (g .V·Degree .coded)) (g .V·Vocabulary .model) (c .args .below) (c .args .floor) list (c .new-floor .result)
+    layered-words S (g .V·Vocabulary .model) (c .args .below) (c .args .floor) list (c .new-floor .result)
     (c .new-dialect .result) (c .new-floor .ensures .below) (c .new-floor .ensures .degree) (c .new-dialect .ensures .below)
     (c .new-dialect .ensures .words) in
     record {

@@ -1,4 +1,3 @@
-use Rattle.layers.specs.Equals.{equal}
 use Rattle.layers.proofs.Floored.{floor-laws}
 use Rattle.layers.proofs.floor.FloorVocabulary.arity.Needs as need
 
@@ -6,5 +5,5 @@ pub returns : need.returns
 returns g c =
     record {
       value = c .arity .ensures .value;
-      laws = floor-laws _ (g .Degree·Scale·met .lawful) (equal (g .V·Degree .coded)) (c .args .self .now .degree) _ (c .arity .ensures .laws);
+      laws = floor-laws _ (g .Degree·Scale·met .lawful) (c .args .self .now .degree) _ (c .arity .ensures .laws);
     }
