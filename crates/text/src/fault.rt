@@ -1,0 +1,66 @@
+use crate::token::SyntaxFault;
+use fault::Fault;
+use fault::Layer;
+ghost use Rattle.text.specs.Faults.{textRefusal};
+ghost use Rattle.text.specs.declared.fault.TextFault.the-variants.{NoText};
+ghost use mathlib.Core.Path.{_≡_};
+
+/// Why a text was refused, with the place: a byte, counted from 0.
+#[derive(Clone, Copy, PartialEq, Eq, Debug)]
+pub enum TextFault {
+    /// There is no byte.
+    Empty,
+    /// There are more than 4,096 bytes.
+    TooLong,
+    /// More than 31 brackets are open with this `(`.
+    TooDeep(u32),
+    /// The first byte, or the end, with which no text can go on.
+    NoText(u32),
+    /// The first word that the lexicon or the vocabulary lacks.
+    UnknownWord(u32),
+    /// The first word with more or fewer arguments than it takes.
+    WrongArguments(u32),
+}
+
+impl TextFault {
+    /// The refusal of a text that stands in the layer.
+    pub fn fault(self, layer: Layer) -> Fault
+        ensures { λ r. ⌜ r ≡ textRefusal layer self ⌝ }
+    {
+        match self {
+            TextFault::Empty | TextFault::TooLong => Fault {
+                layer,
+                number: 11,
+                place: 0,
+            },
+            TextFault::TooDeep(place) => Fault {
+                layer,
+                number: 12,
+                place,
+            },
+            TextFault::NoText(place) => Fault {
+                layer,
+                number: 13,
+                place,
+            },
+            TextFault::UnknownWord(place) => Fault {
+                layer,
+                number: 14,
+                place,
+            },
+            TextFault::WrongArguments(place) => Fault {
+                layer,
+                number: 15,
+                place,
+            },
+        }
+    }
+}
+
+pub impl From<SyntaxFault> for TextFault as TextFaultFromSyntax {
+    ghost converts = { λ f r. r ≡ NoText (f .place) };
+
+    fn from(fault: SyntaxFault) -> TextFault {
+        TextFault::NoText(fault.place)
+    }
+}
