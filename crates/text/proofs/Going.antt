@@ -12,14 +12,10 @@ use Rattle.std.proofs.shelf.Tests.{and-parts, and-from, cases-lt, cases-eq}
 use Rattle.std.proofs.shelf.Ways.{tells}
 use Rattle.text.specs.Phrases.{decimal}
 use Rattle.text.specs.Course.{State, start, mark, tens, letters, after, Next, stop, on, follow, step, Outcome, whole, stopped, course}
-use Rattle.text.specs.Tokens.{small, inWord, digit, wordy, IsWord, Stop, begins}
+use Rattle.text.specs.Tokens.{small, inWord, digit, wordy, IsWord, Stop, parts, begins}
 
 abbrev pub opens : ℕ → Bool
 opens b = eqb b 40
-
--- a byte that may follow an argument
-abbrev pub parts : ℕ → Bool
-parts b = cond (eqb b 44) true (eqb b 41)
 
 onto : (x y : Next) (p : ℕ) (bs : List ℕ) → x ≡ y → _≡_ {A = Outcome} (elim x [ stop ↦ stopped p | on t ↦ course t (p + 1) bs ]) (elim y [ stop ↦ stopped p | on t ↦ course t (p + 1) bs ])
 onto x y p bs e = ap (λ (z : Next). elim z [ stop ↦ stopped p | on t ↦ course t (p + 1) bs ]) e

@@ -13,16 +13,11 @@ use Rattle.std.proofs.shelf.Ways.{tells}
 use Rattle.text.specs.Phrases.{decimal, Phrase, Phrases, variable, word, none, more, bytes, bracketed, following, Sound, AllSound}
 use Rattle.text.specs.Texts.{IsText, Begins, StopsAt}
 use Rattle.text.specs.Course.{State, start, mark, letters, after, Next, stop, on, step, ends, Outcome, whole, stopped, course, at-place, PhraseTo, PhraseStops}
-use Rattle.text.specs.Tokens.{digit, inWord, Stop}
+use Rattle.text.specs.Tokens.{digit, inWord, Stop, parts, Ended}
 use Rattle.text.specs.declared.token.SyntaxFault.{SyntaxFault}
 use Rattle.text.proofs.Spelling.{spelling-word}
-use Rattle.text.proofs.Going.{opens, parts, goes-word, goes-open, goes-rest, goes-decimal}
+use Rattle.text.proofs.Going.{opens, goes-word, goes-open, goes-rest, goes-decimal}
 use Rattle.text.proofs.Reading.{end-is, short}
-
--- nothing, or what parts terms
-abbrev pub Ended : List ℕ → Type 0
-Ended [] = Unit {0}
-Ended (b ∷ bs) = parts b ≡ true
 
 pub ended : (f : ℕ → Bool) → ((b : ℕ) → parts b ≡ true → f b ≡ false) → (k : List ℕ) → Ended k → Stop f k
 ended f h [] e = tt

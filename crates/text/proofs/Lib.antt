@@ -3,3 +3,7 @@ pub mod Going
 pub mod Reading
 pub mod Grammatical
 pub mod Depths
+pub mod Unique
+pub mod Tally
+pub mod Walk
+pub mod Passing

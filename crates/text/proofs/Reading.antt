@@ -15,9 +15,9 @@ use Rattle.text.specs.declared.token.Placed.{Placed}
 use Rattle.text.specs.declared.token.SyntaxFault.{SyntaxFault}
 use Rattle.text.specs.Phrases.{decimal, Phrase, Phrases, variable, word, none, more, bytes, bracketed, following, Sound, AllSound}
 use Rattle.text.specs.Course.{State, start, mark, letters, after, Outcome, stopped, course, at-place, PhraseTo, PhraseStops, ArgumentsTo, ArgumentsStop}
-use Rattle.text.specs.Tokens.{small, digit, inWord, IsWord, Stop, begins, part, spell, Fair, Lexed, NoToken}
+use Rattle.text.specs.Tokens.{small, digit, inWord, IsWord, Stop, begins, parts, part, spell, Fair, Lexed, NoToken}
 use Rattle.text.proofs.Spelling.{word-spelling}
-use Rattle.text.proofs.Going.{opens, parts, goes-word, goes-open, goes-rest, goes-decimal, stops-start, stops-mark, stops-after}
+use Rattle.text.proofs.Going.{opens, goes-word, goes-open, goes-rest, goes-decimal, stops-start, stops-mark, stops-after}
 
 -- where a part of the text ends
 pub end-is : (text front : List ℕ) (at e : ℕ) → at ≤ e → e ≤ length text → drop at text ≡ front ++ drop e text → e ≡ at + length front

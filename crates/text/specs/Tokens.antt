@@ -37,6 +37,15 @@ abbrev pub Stop : (ℕ → Bool) → List ℕ → Type 0
 Stop f [] = Unit {0}
 Stop f (b ∷ bs) = f b ≡ false
 
+-- A byte that may follow an argument.
+abbrev pub parts : ℕ → Bool
+parts b = eqb b 44 || eqb b 41
+
+-- Nothing, or what may follow an argument.
+abbrev pub Ended : List ℕ → Type 0
+Ended [] = Unit {0}
+Ended (b ∷ bs) = parts b ≡ true
+
 -- The kinds of token, without a place.
 pub data Part : Type 0 where
   name : List ℕ → Part
