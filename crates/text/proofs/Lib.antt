@@ -7,3 +7,5 @@ pub mod Unique
 pub mod Tally
 pub mod Walk
 pub mod Passing
+pub mod Terms
+pub mod Judging

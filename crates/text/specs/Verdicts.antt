@@ -46,16 +46,17 @@ module _ (spellings : ℕ → Option (List ℕ)) (arities : List ℕ) (text : Li
   abbrev pub Verdict : Result (Unit {0}) TextFault → Type 0
   Verdict r = Cases r (λ _. Accepted) Refused
 
-  -- No other verdict fits.
-  abbrev pub Only : Result (Unit {0}) TextFault → Type 0
-  Only r = (v : Result (Unit {0}) TextFault) → Verdict v → v ≡ r
-
-  -- A writing of a term within the limits is never refused.
-  abbrev pub Takes : Result (Unit {0}) TextFault → Type 0
-  Takes r = (t : Term) → Formed (length arities) (λ f. getD arities f 0) t → Writes spellings text t → Sized text → AllShallow text → Cases r (λ _. Reads spellings arities text t) (λ _. ⊥)
-
-  -- What a term is written as is read as that term, as far as the limits reach.
-  abbrev pub ReadsBack : Result (Unit {0}) TextFault → Type 0
-  ReadsBack r =
+  -- What is proved of the check's answer.
+  pub record Judged (r : Result (Unit {0}) TextFault) : Type 0 where
+    -- it fits the text
+    pub verdict : Verdict r
+    -- and no other does
+    pub only : (v : Result (Unit {0}) TextFault) → Verdict v → v ≡ r
+    -- a writing of a term within the limits is read as that term, and never refused
+    pub takes : (t : Term) → Formed (length arities) (λ f. getD arities f 0) t → Writes spellings text t → Sized text → AllShallow text → Cases r (λ _. Reads spellings arities text t) (λ _. ⊥)
+    -- a text is a writing of those terms alone that are written so
+    pub exact : (t : Term) → Writes spellings text t → write spellings t ≡ text
+    -- what a term is written as is read as that term, as far as the limits reach
+    pub back :
       (t : Term) → Formed (length arities) (λ f. getD arities f 0) t → Spelled spellings t → IsLexicon spellings → write spellings t ≡ text → length text ≤ longestText → AllShallow text →
       Cases r (λ _. Reads spellings arities text t) (λ _. ⊥)

@@ -5,7 +5,7 @@ use crate::lookup::check_arguments;
 use crate::lookup::check_known;
 use crate::reader::check_grammar;
 use vocabulary::Lexicon;
-ghost use Rattle.text.specs.Verdicts.{Only, ReadsBack, Takes, Verdict};
+ghost use Rattle.text.specs.Verdicts.{Judged};
 
 /// The most bytes of a text.
 const LONGEST_TEXT: usize = 4096;
@@ -13,10 +13,7 @@ const LONGEST_TEXT: usize = 4096;
 /// Whether the bytes are the text of a term over the words of the lexicon, of which those numbered below the
 /// number of arities are the vocabulary's. The checks run in the order of their numbers, each over the whole text.
 pub fn check_text<L: Lexicon>(text: &[u8], lexicon: &L, arities: &[u8]) -> Result<(), TextFault>
-    ensures verdict { λ r. ⌜ Verdict (spellings (now (lexicon .entry))) (now (arities .entry)) (now (text .entry)) r ⌝ }
-    ensures only { λ r. ⌜ Only (spellings (now (lexicon .entry))) (now (arities .entry)) (now (text .entry)) r ⌝ }
-    ensures takes { λ r. ⌜ Takes (spellings (now (lexicon .entry))) (now (arities .entry)) (now (text .entry)) r ⌝ }
-    ensures back { λ r. ⌜ ReadsBack (spellings (now (lexicon .entry))) (now (arities .entry)) (now (text .entry)) r ⌝ }
+    ensures { λ r. ⌜ Judged (spellings (now (lexicon .entry))) (now (arities .entry)) (now (text .entry)) r ⌝ }
 {
     if text.is_empty() {
         return Err(TextFault::Empty);
