@@ -169,8 +169,8 @@ module _ (spellings : ℕ → Option (List ℕ)) (arities : List ℕ) (text : Li
     takes = λ t m w s h. reads-it r t a m w s h;
     exact = exact spellings text;
     back = λ t m s laws e short h.
-      let w = writes-own spellings laws (length arities) (λ f. getD arities f 0) text t m s e in
-      reads-it r t a m w (subst (λ (l : List ℕ). 0 < length l) (w .written) (has-byte (w .phrase) (w .sound)), short) h;
+        let w = writes-own spellings laws (length arities) (λ f. getD arities f 0) text t m s e in
+        reads-it r t a m w (subst (λ (l : List ℕ). 0 < length l) (w .written) (has-byte (w .phrase) (w .sound)), short) h;
   }
 
   pub judged-fault : (r : Result (Unit {0}) TextFault) (e : TextFault) → r ≡ Err e → Refused spellings arities text e → Judged spellings arities text r

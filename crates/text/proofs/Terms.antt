@@ -96,8 +96,8 @@ module _ (spellings : ℕ → Option (List ℕ)) (arities : List ℕ) where
     formed = m .formed;
     writes = record { phrase = p; sound = s; written = e; means = m .means };
     only = λ u f w.
-      let same = one-phrase text (w .phrase) p (w .sound) s (w .written) e in
-      same-term p 0 u (m .term) a (subst (λ (q : Phrase). Means spellings q u) same (w .means)) (m .means);
+        let same = one-phrase text (w .phrase) p (w .sound) s (w .written) e in
+        same-term p 0 u (m .term) a (subst (λ (q : Phrase). Means spellings q u) same (w .means)) (m .means);
   }
 
   -- the words of a phrase that means a term fit

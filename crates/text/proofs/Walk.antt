@@ -78,8 +78,8 @@ waiting i j os ws s e h = record {
 
 -- an argument, and those that follow it
 argument : (i : ℕ) (p : Phrase) (ps : Phrases) (os : List Phrases) (ws : List Occurrence) → Sound p → AllSound ps → OpenSound os →
-  ws ≡ (words (i + 1) p ++ wordsAmong (i + 1 + length (bytes p)) ps) ++ openWords (i + suc (length (bytes p ++ following ps))) os →
-  Remains (bytes p ++ (following ps ++ openBytes os)) (i + 1) ws
+    ws ≡ (words (i + 1) p ++ wordsAmong (i + 1 + length (bytes p)) ps) ++ openWords (i + suc (length (bytes p ++ following ps))) os →
+    Remains (bytes p ++ (following ps ++ openBytes os)) (i + 1) ws
 argument i p ps os ws s r o h =
     let long = length-append (bytes p) (following ps) in
     let j : i + suc (length (bytes p ++ following ps)) ≡ i + 1 + length (bytes p) + length (following ps) = omega arith in
@@ -92,8 +92,8 @@ argument i p ps os ws s r o h =
     }
 
 ahead : (first : Left) (os : List Phrases) (left : List ℕ) (i : ℕ) (ws : List Occurrence) → LeftSound first → OpenSound os →
-  left ≡ leftBytes first ++ openBytes os → ws ≡ leftWords i first ++ openWords (i + length (leftBytes first)) os →
-  ((left ≡ []) × (ws ≡ [])) ⊎ Ahead left i ws
+    left ≡ leftBytes first ++ openBytes os → ws ≡ leftWords i first ++ openWords (i + length (leftBytes first)) os →
+    ((left ≡ []) × (ws ≡ [])) ⊎ Ahead left i ws
 ahead (whole (variable n)) os left i ws s o e h = inr (record {
   token = label n;
   rest = openBytes os;

@@ -6,6 +6,7 @@ pub mod Occurrences
 pub mod Meanings
 pub mod Writings
 pub mod Faults
+pub mod Sentences
 pub mod Verdicts
 pub mod Tokens
 pub mod Course

@@ -58,5 +58,5 @@ module _ (spellings : ℕ → Option (List ℕ)) (arities : List ℕ) (text : Li
     pub exact : (t : Term) → Writes spellings text t → write spellings t ≡ text
     -- what a term is written as is read as that term, as far as the limits reach
     pub back :
-      (t : Term) → Formed (length arities) (λ f. getD arities f 0) t → Spelled spellings t → IsLexicon spellings → write spellings t ≡ text → length text ≤ longestText → AllShallow text →
-      Cases r (λ _. Reads spellings arities text t) (λ _. ⊥)
+        (t : Term) → Formed (length arities) (λ f. getD arities f 0) t → Spelled spellings t → IsLexicon spellings → write spellings t ≡ text → length text ≤ longestText → AllShallow text →
+        Cases r (λ _. Reads spellings arities text t) (λ _. ⊥)

@@ -2,6 +2,7 @@ use crate::token::SyntaxFault;
 use fault::Fault;
 use fault::Layer;
 ghost use Rattle.text.specs.Faults.{textRefusal};
+ghost use Rattle.text.specs.Sentences.{says};
 ghost use Rattle.text.specs.declared.fault.TextFault.the-variants.{NoText};
 ghost use mathlib.Core.Path.{_≡_};
 
@@ -53,6 +54,20 @@ impl TextFault {
                 number: 15,
                 place,
             },
+        }
+    }
+
+    /// What the fault says to a reader who is shown its place.
+    pub fn sentence(self) -> &'static str
+        ensures { λ r. ⌜ now r ≡ says self ⌝ }
+    {
+        match self {
+            TextFault::Empty => "the text is empty",
+            TextFault::TooLong => "the text has more than 4096 bytes",
+            TextFault::TooDeep(_) => "more than 31 brackets are open with this one",
+            TextFault::NoText(_) => "no text can go on so",
+            TextFault::UnknownWord(_) => "there is no such word",
+            TextFault::WrongArguments(_) => "the word takes another number of arguments",
         }
     }
 }

@@ -24,7 +24,11 @@ fn arity_of<L: Lexicon>(lexicon: &L, arities: &[u8], spelling: &[u8]) -> Option<
     match lexicon.word(spelling) {
         Some(word) => {
             let word = word as usize;
-            if word < arities.len() { Some(arities[word]) } else { None }
+            if word < arities.len() {
+                Some(arities[word])
+            } else {
+                None
+            }
         }
         None => None,
     }
@@ -48,7 +52,11 @@ pub fn check_known<L: Lexicon>(text: &[u8], lexicon: &L, arities: &[u8]) -> Resu
 }
 
 /// Refuses the first word with more or fewer arguments than it takes.
-pub fn check_arguments<L: Lexicon>(text: &[u8], lexicon: &L, arities: &[u8]) -> Result<(), TextFault>
+pub fn check_arguments<L: Lexicon>(
+    text: &[u8],
+    lexicon: &L,
+    arities: &[u8],
+) -> Result<(), TextFault>
     requires { ⌜ length (now text) ≤ longestText ⌝ }
     ensures { λ r. ⌜ ((p : Phrase) → Sound p → bytes p ≡ now (text .entry) → Cases r
         (λ _. All (Sure (spellings (now (lexicon .entry))) (now (arities .entry))) (words 0 p))

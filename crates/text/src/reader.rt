@@ -59,5 +59,9 @@ pub fn check_grammar(text: &[u8]) -> Result<(), SyntaxFault>
     ensures { λ r. ⌜ Cases r (λ _. IsText (now (text .entry))) (λ f. StopsAt (now (text .entry)) (f .place)) ⌝ }
 {
     let end = read_term(text, 0)?;
-    if end < text.len() { Err(stray(end)) } else { Ok(()) }
+    if end < text.len() {
+        Err(stray(end))
+    } else {
+        Ok(())
+    }
 }

@@ -13,14 +13,13 @@ pub loop-word-again : need.loop-word-again
 loop-word-again g c =
     let text = c .args .text .now in
     let S = Sure (g .L·Lexicon .spellings (c .args .lexicon .now)) (c .args .arities .now) in
-    let told = c .in-Some .ensures tt in
-    (
+    let told = c .in-Some .ensures tt in (
       told .moves .2,
       λ p sound written.
-      let passed = c .loop-word .inv .1 p sound written in
-      let n = now-at S text _ (words 0 p) (c .in-Some .word) passed (told .finds) in
-      let counted = c .count-arguments-arguments .ensures (n .given) (n .behind) (n .sound) (n .ended) (n .read) in
-      passed-more S text _ (words 0 p) (c .in-Some .word) passed (told .finds) (sure-by _ _ _ _ (c .in-Some-arity-of .ensures tt) (c .if-arity-arguments .left ∙ counted)),
+          let passed = c .loop-word .inv .1 p sound written in
+          let n = now-at S text _ (words 0 p) (c .in-Some .word) passed (told .finds) in
+          let counted = c .count-arguments-arguments .ensures (n .given) (n .behind) (n .sound) (n .ended) (n .read) in
+          passed-more S text _ (words 0 p) (c .in-Some .word) passed (told .finds) (sure-by _ _ _ _ (c .in-Some-arity-of .ensures tt) (c .if-arity-arguments .left ∙ counted)),
     )
 
 pub returns-then-arity-arguments : need.returns-then-arity-arguments
