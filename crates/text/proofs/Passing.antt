@@ -1,7 +1,11 @@
 -- What the loops over the words of a text keep.
 use mathlib.Core.Path.{_≡_, refl, sym, ap, subst, _∙_}
 use mathlib.Core.List.{List, [], _∷_, _++_, append-assoc, append-nil}
+use mathlib.Core.Bool.{Bool, true, false}
 use Prim.Native.Nat.{ℕ, _+_, _<_, _≤_}
+use lib.Dec.{eqb}
+use borrow.Author.Tests.{eqb-true, eqb-false}
+use Rattle.std.specs.Orderings.{When}
 use native.Mathlib.Omega.{arith}
 use lib.ListN.{length, getD, drop}
 use Rattle.std.proofs.shelf.Elements.{all-push, all-weaker}
@@ -13,8 +17,10 @@ use Rattle.text.specs.declared.words.WordAt.{WordAt}
 use Rattle.text.specs.Phrases.{Phrase, Phrases, count, bytes, Sound}
 use Rattle.text.specs.Occurrences.{Occurrence, words, FirstOf}
 use Rattle.text.specs.Meanings.{Known, Fitting}
-use Rattle.text.specs.Remains.{Remains, NextIs}
-use Rattle.text.specs.Lookups.{Lacking, Single, Arity, Sure, Told}
+use Rattle.text.specs.Remains.{Remains, occurrence, NextIs}
+use Rattle.text.specs.Lookups.{Lacking, Single, Arity, Sure, Asked, Granted, Told}
+use Rattle.text.specs.declared.demand.Demand.{Demand}
+use Rattle.text.specs.declared.demand.Demand.the-variants.{ToBeKnown, ToFit}
 use Rattle.text.proofs.Walk.{remains-whole}
 
 -- P holds of the words before `at`, and the others are left
@@ -25,10 +31,6 @@ pub record Passed (P : Occurrence → Type 0) (text : List ℕ) (at : ℕ) (ws :
   pub good : All P before
   pub left : Remains (drop at text) at others
 
--- the word that was found, with its arguments
-abbrev pub found : {text : List ℕ} {ws : List Occurrence} {w : WordAt} → NextIs text ws w → Occurrence
-found {text} {ws} {w} n = record { place = w .place; spelling = w .spelling .now; arguments = count (n .given) }
-
 pub passed-none : (P : Occurrence → Type 0) (text : List ℕ) (p : Phrase) → Sound p → bytes p ≡ text → Passed P text 0 (words 0 p)
 passed-none P text p s e = record { before = []; others = words 0 p; split = refl; good = tt; left = remains-whole text p s e }
 
@@ -36,19 +38,22 @@ module _ (P : Occurrence → Type 0) (text : List ℕ) (at : ℕ) (ws : List Occ
   abbrev pub now-at : NextIs text (passed .others) w
   now-at = next (passed .others) (passed .left)
 
-  split-here : ws ≡ passed .before ++ (found now-at ∷ now-at .others)
+  abbrev pub found : Occurrence
+  found = occurrence w (count (now-at .given))
+
+  split-here : ws ≡ passed .before ++ (found ∷ now-at .others)
   split-here = passed .split ∙ ap (λ l. passed .before ++ l) (now-at .has)
 
-  pub passed-more : P (found now-at) → Passed P text (w .end) ws
+  pub passed-more : P (found) → Passed P text (w .end) ws
   passed-more h = record {
-    before = passed .before ++ found now-at ∷ [];
+    before = passed .before ++ found ∷ [];
     others = now-at .others;
-    split = split-here ∙ sym (append-assoc (passed .before) (found now-at ∷ []) (now-at .others));
-    good = all-push P (passed .before) (found now-at) (passed .good) h;
+    split = split-here ∙ sym (append-assoc (passed .before) (found ∷ []) (now-at .others));
+    good = all-push P (passed .before) (found) (passed .good) h;
     left = now-at .left;
   }
 
-  pub passed-fails : (Q : Occurrence → Type 0) → ((v : Occurrence) → P v → Q v) → (Q (found now-at) → ⊥) → FirstOf Q ws (found now-at)
+  pub passed-fails : (Q : Occurrence → Type 0) → ((v : Occurrence) → P v → Q v) → (Q (found) → ⊥) → FirstOf Q ws (found)
   passed-fails Q weaker fails = record {
     before = passed .before;
     behind = now-at .others;
@@ -68,17 +73,30 @@ module _ (spellings : ℕ → Option (List ℕ)) (arities : List ℕ) where
   pub lacking-past : (s : List ℕ) (w : ℕ) → IsLexicon spellings → Spells spellings w s → length arities ≤ w → Lacking spellings arities s
   lacking-past s w laws spells past n has other = omega (arith, laws .single n w s other spells)
 
-  pub known-by : (w : Occurrence) (a : ℕ) → Arity spellings arities (w .spelling) a → Known spellings arities w
-  known-by w a r = record { number = r .number; spells = r .spells; has = r .has }
+  pub lacks : (d : Demand) (w : Occurrence) → Lacking spellings arities (w .spelling) → Asked spellings arities d w → ⊥
+  lacks ToBeKnown w l k = l (k .number) (k .has) (k .spells)
+  lacks ToFit w l f = l (f .number) (f .has) (f .spells)
 
-  pub unknown-by : (w : Occurrence) → Lacking spellings arities (w .spelling) → Known spellings arities w → ⊥
-  unknown-by w l k = l (k .number) (k .has) (k .spells)
+  pub known-by : (d : Demand) (w : Occurrence) (a : ℕ) → d ≡ ToBeKnown → Arity spellings arities (w .spelling) a → Granted spellings arities d w
+  known-by d w a is r =
+      let known : Known spellings arities w = record { number = r .number; spells = r .spells; has = r .has } in
+      subst (λ (x : Demand). Granted spellings arities x w) (sym is) known
 
-  pub sure-by : (w : Occurrence) (a : ℕ) → Arity spellings arities (w .spelling) a → a ≡ w .arguments → Sure spellings arities w
+  sure-by : (w : Occurrence) (a : ℕ) → Arity spellings arities (w .spelling) a → a ≡ w .arguments → Sure spellings arities w
   sure-by w a r e = (record { number = r .number; spells = r .spells; has = r .has; takes = r .takes ∙ e }, r .single)
 
-  pub misfit-by : (w : Occurrence) (a : ℕ) → Arity spellings arities (w .spelling) a → (a ≡ w .arguments → ⊥) → Fitting spellings arities w → ⊥
+  misfit-by : (w : Occurrence) (a : ℕ) → Arity spellings arities (w .spelling) a → (a ≡ w .arguments → ⊥) → Fitting spellings arities w → ⊥
   misfit-by w a r ne f = ne (sym (r .takes) ∙ ap (λ n. getD arities n 0) (r .single (r .number) (f .number) (r .spells) (f .spells)) ∙ f .takes)
 
-  pub misfit-unknown : (w : Occurrence) → Lacking spellings arities (w .spelling) → Fitting spellings arities w → ⊥
-  misfit-unknown w l f = l (f .number) (f .has) (f .spells)
+  fits-when : (w : Occurrence) (a n : ℕ) → Arity spellings arities (w .spelling) a → n ≡ w .arguments → (b : Bool) → eqb a n ≡ b → When b (Sure spellings arities w) (Fitting spellings arities w → ⊥)
+  fits-when w a n r e true t = sure-by w a r (eqb-true a n t ∙ e)
+  fits-when w a n r e false t = misfit-by w a r (λ h. eqb-false a n t (h ∙ sym e))
+
+  pub fits-by : (d : Demand) (w : Occurrence) (a n : ℕ) → d ≡ ToFit → Arity spellings arities (w .spelling) a → n ≡ w .arguments → When (eqb a n) (Granted spellings arities d w) (Asked spellings arities d w → ⊥)
+  fits-by d w a n is r e =
+      subst (λ (x : Demand). When (eqb a n) (Granted spellings arities x w) (Asked spellings arities x w → ⊥)) (sym is) (fits-when w a n r e (eqb a n) refl)
+
+  -- what was granted is what was asked
+  pub asked-granted : (d : Demand) (w : Occurrence) → Granted spellings arities d w → Asked spellings arities d w
+  asked-granted ToBeKnown w g = g
+  asked-granted ToFit w g = g .0

@@ -4,9 +4,12 @@ use Prim.Native.Nat.{ℕ, _<_, _≤_}
 use lib.ListN.{length, getD, drop}
 use Rattle.std.specs.declared.option.Option.{Option}
 use Rattle.vocabulary.specs.Spellings.{Spells}
-use Rattle.text.specs.Meanings.{Fitting}
+use Rattle.text.specs.Meanings.{Known, Fitting}
 use Rattle.text.specs.Occurrences.{Occurrence, FirstOf}
 use Rattle.text.specs.declared.fault.TextFault.{TextFault}
+use Rattle.text.specs.declared.fault.TextFault.the-variants.{UnknownWord, WrongArguments}
+use Rattle.text.specs.declared.demand.Demand.{Demand}
+use Rattle.text.specs.declared.demand.Demand.the-variants.{ToBeKnown, ToFit}
 
 module _ (spellings : ℕ → Option (List ℕ)) (arities : List ℕ) where
   -- No word of the vocabulary is spelled so.
@@ -29,8 +32,23 @@ module _ (spellings : ℕ → Option (List ℕ)) (arities : List ℕ) where
   abbrev pub Sure : Occurrence → Type 0
   Sure w = Fitting spellings arities w × Single (w .spelling)
 
+  -- What is asked of a word.
+  abbrev pub Asked : Demand → Occurrence → Type 0
+  Asked ToBeKnown w = Known spellings arities w
+  Asked ToFit w = Fitting spellings arities w
+
+  -- What is known of a word that was not refused.
+  abbrev pub Granted : Demand → Occurrence → Type 0
+  Granted ToBeKnown w = Known spellings arities w
+  Granted ToFit w = Sure w
+
+-- How a word is refused.
+abbrev pub cause : Demand → ℕ → TextFault
+cause ToBeKnown p = UnknownWord p
+cause ToFit p = WrongArguments p
+
 -- The fault is this one, at the first word of which P fails.
-pub record Told (P : Occurrence → Type 0) (ws : List Occurrence) (cause : ℕ → TextFault) (f : TextFault) : Type 0 where
+pub record Told (P : Occurrence → Type 0) (ws : List Occurrence) (c : ℕ → TextFault) (f : TextFault) : Type 0 where
   pub word : Occurrence
   pub first : FirstOf P ws word
-  pub is : f ≡ cause (word .place)
+  pub is : f ≡ c (word .place)

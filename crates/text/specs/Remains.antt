@@ -45,12 +45,16 @@ pub record Remains (left : List ℕ) (i : ℕ) (ws : List Occurrence) : Type 0 w
   pub read : left ≡ leftBytes first ++ openBytes opened
   pub has : ws ≡ leftWords i first ++ openWords (i + length (leftBytes first)) opened
 
+-- The word as it occurs, with so many arguments.
+abbrev pub occurrence : WordAt → ℕ → Occurrence
+occurrence w n = record { place = w .place; spelling = w .spelling .now; arguments = n }
+
 -- The word is the first of the words ws, the others are left behind it, and its arguments follow it.
 pub record NextIs (text : List ℕ) (ws : List Occurrence) (w : WordAt) : Type 0 where
   pub others : List Occurrence
   pub given : Phrases
   pub behind : List ℕ
-  pub has : ws ≡ record { place = w .place; spelling = w .spelling .now; arguments = count given } ∷ others
+  pub has : ws ≡ occurrence w (count given) ∷ others
   pub left : Remains (drop (w .end) text) (w .end) others
   pub sound : AllSound given
   pub read : drop (w .end) text ≡ bracketed given ++ behind

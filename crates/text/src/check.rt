@@ -1,8 +1,8 @@
 use crate::brackets::too_deep;
+use crate::demand::Demand;
 use crate::fault::TextFault;
 use crate::fault::TextFaultFromSyntax;
-use crate::lookup::check_arguments;
-use crate::lookup::check_known;
+use crate::lookup::check_words;
 use crate::reader::check_grammar;
 use vocabulary::Lexicon;
 ghost use Rattle.text.specs.Verdicts.{Judged};
@@ -25,6 +25,6 @@ pub fn check_text<L: Lexicon>(text: &[u8], lexicon: &L, arities: &[u8]) -> Resul
         return Err(TextFault::TooDeep(place as u32));
     }
     check_grammar(text)?;
-    check_known(text, lexicon, arities)?;
-    check_arguments(text, lexicon, arities)
+    check_words(text, lexicon, arities, Demand::ToBeKnown)?;
+    check_words(text, lexicon, arities, Demand::ToFit)
 }

@@ -28,32 +28,17 @@ impl TextFault {
     pub fn fault(self, layer: Layer) -> Fault
         ensures { λ r. ⌜ r ≡ textRefusal layer self ⌝ }
     {
-        match self {
-            TextFault::Empty | TextFault::TooLong => Fault {
-                layer,
-                number: 11,
-                place: 0,
-            },
-            TextFault::TooDeep(place) => Fault {
-                layer,
-                number: 12,
-                place,
-            },
-            TextFault::NoText(place) => Fault {
-                layer,
-                number: 13,
-                place,
-            },
-            TextFault::UnknownWord(place) => Fault {
-                layer,
-                number: 14,
-                place,
-            },
-            TextFault::WrongArguments(place) => Fault {
-                layer,
-                number: 15,
-                place,
-            },
+        let (number, place) = match self {
+            TextFault::Empty | TextFault::TooLong => (11, 0),
+            TextFault::TooDeep(place) => (12, place),
+            TextFault::NoText(place) => (13, place),
+            TextFault::UnknownWord(place) => (14, place),
+            TextFault::WrongArguments(place) => (15, place),
+        };
+        Fault {
+            layer,
+            number,
+            place,
         }
     }
 

@@ -1,6 +1,7 @@
 // Whether bytes are the text of a term, and where they fail to be. It knows no sheet and no likeness.
 mod brackets;
 mod check;
+mod demand;
 mod fault;
 mod lexer;
 mod lookup;
