@@ -30,7 +30,8 @@ use Rattle.text.specs.Writings.{Writes, Reads, Spelled, write}
 use Rattle.text.specs.Lookups.{Sure, Told}
 use Rattle.text.specs.Verdicts.{Sized, AllShallow, Accepted, Refused, Verdict, Judged}
 use Rattle.text.proofs.Unique.{one-phrase}
-use Rattle.text.proofs.Terms.{all-right, Meant, meant, reads-by, fit, exact, writes-own}
+use Rattle.text.proofs.Terms.{all-right, Meant, meant, reads-by, fit, exact, spelled-sound, writes-own}
+use Rattle.text.proofs.Nesting.{shallow-nested}
 
 -- a text that begins so begins so with fewer bytes too
 begins-shorter : (text : List ℕ) (m n : ℕ) → m ≤ n → Begins (take n text) → Begins (take m text)
@@ -168,9 +169,10 @@ module _ (spellings : ℕ → Option (List ℕ)) (arities : List ℕ) (text : Li
     only = λ v b. only-one r v a b;
     takes = λ t m w s h. reads-it r t a m w s h;
     exact = exact spellings text;
-    back = λ t m s laws e short h.
+    back = λ t m s laws n e short.
         let w = writes-own spellings laws (length arities) (λ f. getD arities f 0) text t m s e in
-        reads-it r t a m w (subst (λ (l : List ℕ). 0 < length l) (w .written) (has-byte (w .phrase) (w .sound)), short) h;
+        reads-it r t a m w (subst (λ (l : List ℕ). 0 < length l) (w .written) (has-byte (w .phrase) (w .sound)), short)
+        (shallow-nested spellings text t (spelled-sound spellings laws (length arities) (λ f. getD arities f 0) t m s) n e);
   }
 
   pub judged-fault : (r : Result (Unit {0}) TextFault) (e : TextFault) → r ≡ Err e → Refused spellings arities text e → Judged spellings arities text r

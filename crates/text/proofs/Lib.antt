@@ -9,3 +9,4 @@ pub mod Walk
 pub mod Passing
 pub mod Terms
 pub mod Judging
+pub mod Nesting

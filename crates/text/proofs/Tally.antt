@@ -45,7 +45,7 @@ tally-wordy (b ∷ s) k d c w =
 digit-word : (b : ℕ) → digit b ≡ true → inWord b ≡ true
 digit-word b h = grind (arith, tells)
 
-decimal-wordy : (n : ℕ) → n < 100 → wordy (decimal n) ≡ true
+pub decimal-wordy : (n : ℕ) → n < 100 → wordy (decimal n) ≡ true
 decimal-wordy n h =
     ⊎-elim
     (λ one.

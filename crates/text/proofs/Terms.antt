@@ -149,7 +149,7 @@ module _ (spellings : ℕ → Option (List ℕ)) where
     word-spells f h = record { written = h .0; has = h .1; same = sym (ap characters (h .1)) }
 
     mutual
-      spelled-sound : (t : Term) → Formed n ar t → Spelled spellings t → Sound (spelled spellings t)
+      pub spelled-sound : (t : Term) → Formed n ar t → Spelled spellings t → Sound (spelled spellings t)
       spelled-sound (var x) f s = f
       spelled-sound (app g ts) f s = (word-sound g (s .0), all-spelled-sound ts (f .2) (s .1))
 

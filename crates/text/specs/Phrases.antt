@@ -3,6 +3,7 @@ use mathlib.Core.List.{List, [], _∷_, _++_}
 use mathlib.Core.Path.{_≡_}
 use Prim.Native.Nat.{ℕ, suc, _+_, _/_, _%_, _<_}
 use lib.Dec.{ltb}
+use Rattle.text.specs.Limits.{labels}
 use Rattle.vocabulary.specs.Spellings.{IsSpelling}
 
 -- A phrase is a term before any lexicon is asked: each word is its characters.
@@ -43,7 +44,7 @@ abbrev mutual
 -- Labels are below 100, and words are spellings.
 abbrev mutual
   pub Sound : Phrase → Type 0
-  Sound (variable n) = n < 100
+  Sound (variable n) = n < labels
   Sound (word s ps) = IsSpelling s × AllSound ps
 
   pub AllSound : Phrases → Type 0

@@ -6,6 +6,7 @@ use Prim.Native.Nat.{ℕ, _+_, _<_, _≤_}
 use lib.Dec.{leb, eqb}
 use lib.ListN.{length, drop}
 use Rattle.vocabulary.specs.Spellings.{fits}
+use Rattle.text.specs.Limits.{longestWord, labels}
 use Rattle.text.specs.Phrases.{decimal}
 use Rattle.text.specs.declared.token.Token.{Token}
 use Rattle.text.specs.declared.token.Token.the-variants.{Word, Open, Close, Comma, Variable}
@@ -70,11 +71,11 @@ spell (label n) = 63 ∷ decimal n
 
 -- The part is one of the language's, and as long as what follows lets it be.
 abbrev pub Fair : Part → List ℕ → Type 0
-Fair (name s) rest = IsWord s × (length s < 16 → Stop inWord rest)
+Fair (name s) rest = IsWord s × (length s < longestWord → Stop inWord rest)
 Fair opening rest = Unit {0}
 Fair closing rest = Unit {0}
 Fair parting rest = Unit {0}
-Fair (label n) rest = (n < 100) × (0 < n → n < 10 → Stop digit rest)
+Fair (label n) rest = (n < labels) × (0 < n → n < 10 → Stop digit rest)
 
 -- The token stands at the place.
 pub record Lexed (text : List ℕ) (at : ℕ) (p : Placed) : Type 0 where

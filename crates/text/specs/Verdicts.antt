@@ -8,12 +8,12 @@ use Rattle.std.specs.declared.option.Option.{Option}
 use Rattle.std.specs.declared.result.Result.{Result}
 use Rattle.unification.specs.Terms.{Term, Formed}
 use Rattle.vocabulary.specs.Spellings.{IsLexicon}
-use Rattle.text.specs.Limits.{longestText}
+use Rattle.text.specs.Limits.{longestText, deepest}
 use Rattle.text.specs.Texts.{StopsAt}
 use Rattle.text.specs.Brackets.{Shallow}
 use Rattle.text.specs.Occurrences.{AllWords, FirstWord}
 use Rattle.text.specs.Meanings.{Known, Fitting}
-use Rattle.text.specs.Writings.{Spelled, write, Writes, Reads}
+use Rattle.text.specs.Writings.{Nested, Spelled, write, Writes, Reads}
 use Rattle.text.specs.declared.fault.TextFault.{TextFault}
 use Rattle.text.specs.declared.fault.TextFault.the-variants.{Empty, TooLong, TooDeep, NoText, UnknownWord, WrongArguments}
 
@@ -58,5 +58,5 @@ module _ (spellings : ℕ → Option (List ℕ)) (arities : List ℕ) (text : Li
     pub exact : (t : Term) → Writes spellings text t → write spellings t ≡ text
     -- what a term is written as is read as that term, as far as the limits reach
     pub back :
-        (t : Term) → Formed (length arities) (λ f. getD arities f 0) t → Spelled spellings t → IsLexicon spellings → write spellings t ≡ text → length text ≤ longestText → AllShallow text →
+        (t : Term) → Formed (length arities) (λ f. getD arities f 0) t → Spelled spellings t → IsLexicon spellings → Nested t deepest → write spellings t ≡ text → length text ≤ longestText →
         Cases r (λ _. Reads spellings arities text t) (λ _. ⊥)

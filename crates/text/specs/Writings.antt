@@ -1,12 +1,27 @@
 use mathlib.Core.List.{List, [], _∷_, _++_}
 use mathlib.Core.Path.{_≡_}
-use Prim.Native.Nat.{ℕ}
+use Prim.Native.Nat.{ℕ, zero, suc}
 use lib.ListN.{length, getD}
 use Rattle.std.specs.declared.option.Option.{Option}
 use Rattle.std.specs.declared.option.Option.the-variants.{None, Some}
 use Rattle.unification.specs.Terms.{Term, Terms, var, app, nil, cons, Formed}
 use Rattle.vocabulary.specs.Spellings.{Spells}
 use Rattle.text.specs.Phrases.{Phrase, Phrases, variable, word, none, more, bytes, Sound}
+
+-- At most d brackets are open at once in the writing of the term.
+abbrev mutual
+  pub Nested : Term → ℕ → Type 0
+  Nested (var x) d = Unit {0}
+  Nested (app f ts) d = Bracketed ts d
+
+  pub Bracketed : Terms → ℕ → Type 0
+  Bracketed nil d = Unit {0}
+  Bracketed (cons t ts) zero = ⊥
+  Bracketed (cons t ts) (suc d) = Nested t d × AllNested ts d
+
+  pub AllNested : Terms → ℕ → Type 0
+  AllNested nil d = Unit {0}
+  AllNested (cons t ts) d = Nested t d × AllNested ts d
 
 -- The characters of a spelling; of none, nothing.
 abbrev pub characters : Option (List ℕ) → List ℕ

@@ -3,7 +3,7 @@ use crate::token::SyntaxFault;
 use crate::token::Token;
 ghost use Prim.Native.Nat.{ℕ, _+_, _-_, _<_, _≤_};
 ghost use Rattle.std.specs.Results.{Cases};
-ghost use Rattle.text.specs.Limits.{longestText};
+ghost use Rattle.text.specs.Limits.{longestText, longestWord};
 ghost use Rattle.text.specs.Tokens.{Lexed, NoToken, Stop, digit, inWord, wordy};
 ghost use lib.ListN.{drop, getD, length, take};
 ghost use mathlib.Core.Bool.{true};
@@ -44,9 +44,9 @@ fn word_end(text: &[u8], at: usize) -> usize
     requires { ⌜ at < length (now text) ⌝ }
     ensures past { λ r. ⌜ at < r ⌝ }
     ensures within { λ r. ⌜ r ≤ length (now (text .entry)) ⌝ }
-    ensures few { λ r. ⌜ r ≤ at + 16 ⌝ }
+    ensures few { λ r. ⌜ r ≤ at + longestWord ⌝ }
     ensures wordy { λ r. ⌜ wordy (take (r - (at + 1)) (drop (at + 1) (now (text .entry)))) ≡ true ⌝ }
-    ensures stops { λ r. ⌜ (r < at + 16 → Stop inWord (drop r (now (text .entry)))) ⌝ }
+    ensures stops { λ r. ⌜ (r < at + longestWord → Stop inWord (drop r (now (text .entry)))) ⌝ }
 {
     let mut end = at + 1;
     while end < text.len() && end - at < LONGEST_WORD && goes_on(text[end]) {
