@@ -1,17 +1,17 @@
 -- How the course goes over the bytes of each token.
-use mathlib.Core.Path.{_≡_, refl, sym, ap, subst, _∙_}
-use mathlib.Core.Bool.{Bool, true, false, cond, _&&_}
-use mathlib.Core.Logic.{_⊎_, inl, inr, ⊎-elim}
-use mathlib.Core.List.{List, [], _∷_, _++_, append-assoc}
-use Prim.Native.Nat.{ℕ, zero, suc, _+_, _-_, _*_, _/_, _%_, _<_, _≤_}
+use mathlib.Core.Path.{_≡_, refl, sym, ap, _∙_}
+use mathlib.Core.Bool.{Bool, true, false}
+use mathlib.Core.Logic.{_⊎_, ⊎-elim}
+use mathlib.Core.List.{List, [], _∷_, _++_}
+use Prim.Native.Nat.{ℕ, zero, suc, _+_, _-_, _/_, _%_, _<_}
 use native.Mathlib.Omega.{arith}
 use lib.Dec.{leb, ltb, eqb}
-use lib.ListN.{length, getD, take, drop, length-drop, length-append}
-use borrow.Author.Tests.{leb-true, lt-ltb, le-ltb, le-leb, ne-eqb}
+use lib.ListN.{length}
+use borrow.Author.Tests.{lt-ltb, le-ltb, le-leb, ne-eqb}
 use Rattle.std.proofs.shelf.Tests.{and-parts, and-from, cases-lt, cases-eq}
 use Rattle.std.proofs.shelf.Ways.{tells}
 use Rattle.text.specs.Phrases.{decimal}
-use Rattle.text.specs.Course.{State, start, mark, tens, letters, after, Next, stop, on, follow, step, Outcome, whole, stopped, course}
+use Rattle.text.specs.Course.{start, mark, tens, letters, after, Next, stop, on, follow, step, Outcome, stopped, course}
 use Rattle.text.specs.Tokens.{small, inWord, digit, wordy, IsWord, Stop, parts, begins}
 
 abbrev pub opens : ℕ → Bool

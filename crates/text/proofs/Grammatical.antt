@@ -1,18 +1,16 @@
 -- From the course to the grammar.
-use mathlib.Core.Path.{_≡_, refl, sym, ap, subst, _∙_}
+use mathlib.Core.Path.{_≡_, refl, sym, ap, _∙_}
 use mathlib.Core.Bool.{Bool, true, false, cond}
-use mathlib.Core.Logic.{_⊎_, inl, inr, ⊎-elim}
 use mathlib.Core.List.{List, [], _∷_, _++_, append-assoc, append-nil}
-use Prim.Native.Nat.{ℕ, zero, suc, _+_, _-_, _<_, _≤_}
+use Prim.Native.Nat.{ℕ, suc, _+_, _-_, _<_, _≤_}
 use native.Mathlib.Nat.{sub-zero}
 use native.Mathlib.Omega.{arith}
-use lib.Dec.{eqb}
 use lib.ListN.{length, drop, take, length-append}
 use Rattle.std.proofs.shelf.Lists.{take-at, drop-all, drop-more}
 use Rattle.std.proofs.shelf.Ways.{tells}
-use Rattle.text.specs.Phrases.{decimal, Phrase, Phrases, variable, word, none, more, bytes, bracketed, following, Sound, AllSound}
+use Rattle.text.specs.Phrases.{Phrase, Phrases, variable, word, none, more, bytes, bracketed, following, Sound, AllSound}
 use Rattle.text.specs.Texts.{IsText, Begins, StopsAt}
-use Rattle.text.specs.Course.{State, start, mark, letters, after, Next, stop, on, step, ends, Outcome, whole, stopped, course, at-place, PhraseTo, PhraseStops}
+use Rattle.text.specs.Course.{State, start, letters, after, Next, stop, on, step, ends, Outcome, whole, stopped, course, PhraseTo, PhraseStops}
 use Rattle.text.specs.Tokens.{digit, inWord, Stop, parts, Ended}
 use Rattle.text.specs.declared.token.SyntaxFault.{SyntaxFault}
 use Rattle.text.proofs.Spelling.{spelling-word}

@@ -1,11 +1,10 @@
 -- Exactly one verdict fits a text.
 use mathlib.Core.Path.{_≡_, refl, sym, ap, subst, _∙_}
-use mathlib.Core.Logic.{_⊎_, inl, inr}
+use mathlib.Core.Logic.{inl, inr}
 use mathlib.Core.List.{List, [], _∷_, _++_, append-assoc}
-use Prim.Native.Nat.{ℕ, zero, suc, _+_, _<_, _≤_}
+use Prim.Native.Nat.{ℕ, _+_, _<_, _≤_}
 use native.Mathlib.Omega.{arith}
 use lib.ListN.{length, getD, take, drop, take-append-drop, length-append}
-use Rattle.fault.specs.Firsts.{Below, First1}
 use Rattle.fault.proofs.Firsts.{first1-only, first1-none}
 use Rattle.std.specs.shelf.Lists.{All}
 use Rattle.std.specs.Results.{Cases}
@@ -16,21 +15,19 @@ use Rattle.std.proofs.shelf.Elements.{all-weaker}
 use Rattle.std.proofs.shelf.Lists.{take-take}
 use Rattle.std.proofs.shelf.Tests.{cases-order}
 use Rattle.unification.specs.Terms.{Term, Formed}
-use Rattle.vocabulary.specs.Spellings.{IsLexicon}
 use Rattle.text.specs.declared.fault.TextFault.{TextFault}
 use Rattle.text.specs.declared.fault.TextFault.the-variants.{Empty, TooLong, TooDeep, NoText, UnknownWord, WrongArguments}
 use Rattle.text.specs.declared.token.SyntaxFault.{SyntaxFault}
-use Rattle.text.specs.Limits.{longestText}
 use Rattle.text.specs.Phrases.{Phrase, variable, word, bracketed, bytes, Sound}
 use Rattle.text.specs.Texts.{IsText, Begins, StopsAt}
 use Rattle.text.specs.Brackets.{Shallow}
 use Rattle.text.specs.Occurrences.{Occurrence, words, FirstOf, AllWords, FirstWord}
 use Rattle.text.specs.Meanings.{Known, Fitting}
-use Rattle.text.specs.Writings.{Writes, Reads, Spelled, write}
+use Rattle.text.specs.Writings.{Writes, Reads}
 use Rattle.text.specs.Lookups.{Sure, Told}
 use Rattle.text.specs.Verdicts.{Sized, AllShallow, Accepted, Refused, Verdict, Judged}
 use Rattle.text.proofs.Unique.{one-phrase}
-use Rattle.text.proofs.Terms.{all-right, Meant, meant, reads-by, fit, exact, spelled-sound, writes-own}
+use Rattle.text.proofs.Terms.{all-right, meant, reads-by, fit, exact, spelled-sound, writes-own}
 use Rattle.text.proofs.Nesting.{shallow-nested}
 
 -- a text that begins so begins so with fewer bytes too

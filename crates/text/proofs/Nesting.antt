@@ -1,6 +1,6 @@
 -- A term that is nested at most 31 deep is written with at most 31 brackets open.
-use mathlib.Core.Path.{_≡_, refl, sym, ap, subst, _∙_}
-use mathlib.Core.Bool.{Bool, true, false, cond}
+use mathlib.Core.Path.{_≡_, refl, sym, subst, _∙_}
+use mathlib.Core.Bool.{true, false, cond}
 use mathlib.Core.Logic.{⊎-elim}
 use mathlib.Core.List.{List, [], _∷_, _++_, append-assoc, append-nil}
 use Prim.Native.Nat.{ℕ, zero, suc, _+_, _<_, _≤_}
@@ -13,9 +13,9 @@ use Rattle.std.proofs.shelf.Tests.{and-parts, cases-eq, eq-eqb, ne-eqb}
 use Rattle.std.proofs.shelf.Ways.{tells}
 use Rattle.std.specs.declared.option.Option.{Option}
 use Rattle.unification.specs.Terms.{Term, Terms, var, app, nil, cons}
-use Rattle.text.specs.Brackets.{often, Shallow}
+use Rattle.text.specs.Brackets.{often}
 use Rattle.text.specs.Limits.{deepest}
-use Rattle.text.specs.Phrases.{decimal, Phrase, variable, word, bytes, bracketed, following, Sound, AllSound}
+use Rattle.text.specs.Phrases.{decimal, bytes, bracketed, following, Sound, AllSound}
 use Rattle.text.specs.Tokens.{inWord, wordy}
 use Rattle.text.specs.Verdicts.{AllShallow}
 use Rattle.text.specs.Writings.{Nested, Bracketed, AllNested, characters, spelled, allSpelled, write}

@@ -12,13 +12,12 @@ use Rattle.std.proofs.shelf.Elements.{all-push, all-weaker}
 use Rattle.std.specs.shelf.Lists.{All}
 use Rattle.std.specs.declared.option.Option.{Option}
 use Rattle.vocabulary.specs.Spellings.{Spells, IsLexicon}
-use Rattle.text.specs.declared.fault.TextFault.{TextFault}
 use Rattle.text.specs.declared.words.WordAt.{WordAt}
-use Rattle.text.specs.Phrases.{Phrase, Phrases, count, bytes, Sound}
+use Rattle.text.specs.Phrases.{Phrase, count, bytes, Sound}
 use Rattle.text.specs.Occurrences.{Occurrence, words, FirstOf}
 use Rattle.text.specs.Meanings.{Known, Fitting}
 use Rattle.text.specs.Remains.{Remains, occurrence, NextIs}
-use Rattle.text.specs.Lookups.{Lacking, Single, Arity, Sure, Asked, Granted, Told}
+use Rattle.text.specs.Lookups.{Lacking, Arity, Sure, Asked, Granted}
 use Rattle.text.specs.declared.demand.Demand.{Demand}
 use Rattle.text.specs.declared.demand.Demand.the-variants.{ToBeKnown, ToFit}
 use Rattle.text.proofs.Walk.{remains-whole}

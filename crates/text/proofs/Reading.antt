@@ -1,11 +1,10 @@
 -- What each way through the two readers answers.
 use mathlib.Core.Path.{_≡_, refl, sym, ap, subst, _∙_}
-use mathlib.Core.Bool.{Bool, true, false, cond}
-use mathlib.Core.Logic.{_⊎_, inl, inr, ⊎-elim}
+use mathlib.Core.Bool.{Bool, true, false}
+use mathlib.Core.Logic.{_⊎_, ⊎-elim}
 use mathlib.Core.List.{List, [], _∷_, _++_, append-assoc, append-nil}
-use Prim.Native.Nat.{ℕ, zero, suc, _+_, _-_, _<_, _≤_}
+use Prim.Native.Nat.{ℕ, suc, _+_, _-_, _<_, _≤_}
 use native.Mathlib.Omega.{arith}
-use lib.Dec.{eqb}
 use denote.Ref.{RefT}
 use lib.ListN.{length, drop, length-drop, length-append}
 use Rattle.std.proofs.shelf.Ways.{tells}
@@ -13,9 +12,9 @@ use Rattle.text.specs.declared.token.Token.{Token}
 use Rattle.text.specs.declared.token.Token.the-variants.{Word, Open, Close, Comma, Variable}
 use Rattle.text.specs.declared.token.Placed.{Placed}
 use Rattle.text.specs.declared.token.SyntaxFault.{SyntaxFault}
-use Rattle.text.specs.Phrases.{decimal, Phrase, Phrases, variable, word, none, more, bytes, bracketed, following, Sound, AllSound}
-use Rattle.text.specs.Course.{State, start, mark, letters, after, Outcome, stopped, course, at-place, PhraseTo, PhraseStops, ArgumentsTo, ArgumentsStop}
-use Rattle.text.specs.Tokens.{small, digit, inWord, IsWord, Stop, begins, parts, part, spell, Fair, Lexed, NoToken}
+use Rattle.text.specs.Phrases.{decimal, Phrase, variable, word, none, more, bytes, Sound}
+use Rattle.text.specs.Course.{start, letters, after, stopped, course, at-place, PhraseTo, PhraseStops, ArgumentsTo, ArgumentsStop}
+use Rattle.text.specs.Tokens.{small, inWord, IsWord, Stop, begins, parts, part, spell, Fair, Lexed, NoToken}
 use Rattle.text.proofs.Spelling.{word-spelling}
 use Rattle.text.proofs.Going.{opens, goes-word, goes-open, goes-rest, goes-decimal, stops-start, stops-mark, stops-after}
 

@@ -1,22 +1,21 @@
 -- What a token's bytes are.
 use mathlib.Core.Path.{_≡_, refl, sym, ap, subst, _∙_}
-use mathlib.Core.Bool.{Bool, true, false, cond, _&&_}
-use mathlib.Core.Logic.{_⊎_, inl, inr, ⊎-elim}
+use mathlib.Core.Bool.{Bool, true, false}
+use mathlib.Core.Logic.{_⊎_}
 use mathlib.Core.List.{List, [], _∷_, _++_}
 use Prim.Native.Nat.{ℕ, zero, suc, _+_, _-_, _*_, _/_, _%_, _<_, _≤_}
 use native.Mathlib.Omega.{arith}
-use lib.Dec.{leb, ltb, eqb}
+use lib.Dec.{leb, ltb}
 use lib.ListN.{length, getD, take, drop, length-drop, take-append-drop}
 use lib.Seq.{getD-drop}
-use borrow.Author.Tests.{leb-true, lt-ltb, le-ltb, le-leb}
+use borrow.Author.Tests.{leb-true, lt-ltb, le-ltb}
 use Rattle.std.proofs.shelf.Lists.{take-more, drop-more, drop-all, drop-drop, length-take-le}
 use Rattle.std.proofs.shelf.Tests.{and-parts, and-from}
 use Rattle.std.proofs.shelf.Ways.{tells}
 use Rattle.text.specs.Phrases.{decimal}
 use Rattle.vocabulary.specs.Spellings.{fits, Signs, IsSpelling}
-use Rattle.text.specs.Tokens.{small, inWord, digit, wordy, IsWord, Stop, begins, Part, part, spell, Fair, Lexed}
+use Rattle.text.specs.Tokens.{small, inWord, digit, wordy, IsWord, Stop, begins, part, spell, Fair, Lexed}
 use Rattle.text.specs.declared.token.Token.{Token}
-use Rattle.text.specs.declared.token.Placed.{Placed}
 
 pub stop-at : (f : ℕ → Bool) (text : List ℕ) (i : ℕ) → f (getD text i 0) ≡ false → Stop f (drop i text)
 stop-at f [] zero h = tt

@@ -2,8 +2,8 @@
 use mathlib.Core.Path.{_≡_, refl, sym, ap, subst, _∙_}
 use mathlib.Core.Bool.{Bool, true, false, cond, _&&_}
 use mathlib.Core.Logic.{⊎-elim}
-use mathlib.Core.List.{List, [], _∷_, _++_, append-assoc, append-nil}
-use Prim.Native.Nat.{ℕ, zero, suc, _+_, _-_, _/_, _%_, _<_, _≤_}
+use mathlib.Core.List.{List, [], _∷_, _++_, append-assoc}
+use Prim.Native.Nat.{ℕ, zero, suc, _+_, _-_, _/_, _%_, _<_}
 use native.Mathlib.Numerals.{add-one}
 use native.Mathlib.Omega.{arith}
 use lib.Dec.{eqb, ltb}
@@ -13,7 +13,7 @@ use Rattle.std.proofs.shelf.Tests.{and-parts, and-from, both-ways, cases-lt, lt
 use Rattle.text.proofs.Going.{opens, digit-is}
 use Rattle.std.proofs.shelf.Ways.{tells}
 use Rattle.text.specs.Phrases.{decimal, Phrase, Phrases, variable, word, none, more, count, bytes, bracketed, following, Sound, AllSound}
-use Rattle.text.specs.Tokens.{inWord, digit, wordy, IsWord, Stop, parts, Ended}
+use Rattle.text.specs.Tokens.{inWord, digit, wordy, Stop, parts, Ended}
 use Rattle.text.proofs.Spelling.{spelling-word}
 use Rattle.text.proofs.Unique.{heads, tails, word-wordy}
 

@@ -1,9 +1,8 @@
 -- From the words of a phrase to the term that it means, and back.
 use mathlib.Core.Path.{_≡_, refl, sym, ap, subst, _∙_}
 use mathlib.Core.List.{List, [], _∷_, _++_}
-use Prim.Native.Nat.{ℕ, suc, _+_, _<_, _≤_}
-use native.Mathlib.Omega.{arith}
-use lib.ListN.{length, getD, length-append}
+use Prim.Native.Nat.{ℕ, suc, _+_}
+use lib.ListN.{length, getD}
 use Rattle.std.specs.shelf.Lists.{All}
 use Rattle.std.proofs.shelf.Elements.{all-append}
 use Rattle.std.specs.declared.option.Option.{Option}
@@ -11,9 +10,9 @@ use Rattle.std.specs.declared.option.Option.the-variants.{Some}
 use Rattle.unification.specs.Terms.{Term, Terms, var, app, nil, cons, size, Formed, AllFormed}
 use Rattle.vocabulary.specs.Spellings.{IsSpelling, Spells, IsLexicon}
 use Rattle.text.specs.Phrases.{Phrase, Phrases, variable, word, none, more, count, bytes, Sound, AllSound}
-use Rattle.text.specs.Occurrences.{Occurrence, words, wordsAmong}
+use Rattle.text.specs.Occurrences.{words, wordsAmong}
 use Rattle.text.specs.Meanings.{Fitting}
-use Rattle.text.specs.Lookups.{Single, Sure}
+use Rattle.text.specs.Lookups.{Sure}
 use Rattle.text.specs.Writings.{characters, spelled, allSpelled, write, Spelled, AllSpelled, Means, AllMean, Writes, Reads}
 use Rattle.text.proofs.Unique.{one-phrase}
 

@@ -1,7 +1,7 @@
 -- Two phrases that are written alike are one, and so are two tokens.
 use mathlib.Core.Path.{_≡_, refl, sym, ap, subst, _∙_}
-use mathlib.Core.Bool.{Bool, true, false, cond}
-use mathlib.Core.Logic.{_⊎_, inl, inr, ⊎-elim}
+use mathlib.Core.Bool.{true, false, cond}
+use mathlib.Core.Logic.{_⊎_, ⊎-elim}
 use mathlib.Core.List.{List, [], _∷_, _++_, append-assoc, append-nil}
 use Prim.Native.Nat.{ℕ, zero, suc, _+_, _-_, _/_, _%_, _<_, _≤_}
 use native.Mathlib.Omega.{arith}
@@ -11,12 +11,11 @@ use borrow.Author.Tests.{lt-ltb, le-ltb, both-ways}
 use Rattle.std.proofs.shelf.Tests.{and-parts, and-from, cases-lt}
 use Rattle.std.proofs.shelf.Ways.{tells}
 use Rattle.text.specs.Phrases.{decimal, Phrase, Phrases, variable, word, none, more, bytes, bracketed, following, Sound, AllSound}
-use Rattle.text.specs.Texts.{IsText}
 use Rattle.text.specs.Tokens.{small, inWord, digit, wordy, IsWord, Stop, Ended, Part, name, opening, closing, parting, label, spell, Fair}
 use Rattle.text.proofs.Spelling.{spelling-word}
 use Rattle.text.proofs.Going.{digit-is}
 use Rattle.text.proofs.Reading.{short}
-use Rattle.text.proofs.Grammatical.{ended, ended-bracketed, ended-following, parts-word, parts-digit}
+use Rattle.text.proofs.Grammatical.{ended, ended-bracketed, ended-following, parts-digit}
 
 pub heads : (a b : ℕ) (x y : List ℕ) → a ∷ x ≡ b ∷ y → a ≡ b
 heads a b x y e = cc

@@ -1,11 +1,11 @@
 -- How a walk over the tokens of a phrase meets its words.
 use mathlib.Core.Path.{_≡_, refl, sym, ap, subst, _∙_}
-use mathlib.Core.Bool.{Bool, true, false, cond}
+use mathlib.Core.Bool.{true, false}
 use mathlib.Core.Logic.{_⊎_, inl, inr, ⊎-elim}
 use mathlib.Core.List.{List, [], _∷_, _++_, append-assoc, append-nil}
-use Prim.Native.Nat.{ℕ, zero, suc, _+_, _/_, _%_, _<_, _≤_}
+use Prim.Native.Nat.{ℕ, suc, _+_, _/_, _<_, _≤_}
 use native.Mathlib.Omega.{arith}
-use lib.Dec.{eqb, ltb}
+use lib.Dec.{ltb}
 use lib.ListN.{length, drop, length-append, length-drop}
 use denote.Ref.{RefT}
 use borrow.Author.Tests.{lt-ltb, le-ltb, both-ways}
@@ -15,16 +15,15 @@ use Rattle.text.specs.declared.token.Token.{Token}
 use Rattle.text.specs.declared.token.Token.the-variants.{Word, Open, Close, Comma, Variable}
 use Rattle.text.specs.declared.token.Placed.{Placed}
 use Rattle.text.specs.declared.token.SyntaxFault.{SyntaxFault}
-use Rattle.text.specs.declared.words.WordAt.{WordAt}
 use Rattle.text.specs.Phrases.{decimal, Phrase, Phrases, variable, word, none, more, count, bytes, bracketed, following, Sound, AllSound}
 use Rattle.text.specs.Occurrences.{Occurrence, words, wordsAmong}
-use Rattle.text.specs.Tokens.{small, inWord, digit, IsWord, Stop, Ended, begins, Part, name, opening, closing, parting, label, part, spell, Fair, Lexed, NoToken}
+use Rattle.text.specs.Tokens.{digit, IsWord, Stop, Ended, begins, Part, name, opening, closing, parting, label, part, spell, Fair, Lexed, NoToken}
 use Rattle.text.specs.Remains.{Left, whole, arguments, leftBytes, leftWords, LeftSound, openBytes, openWords, OpenSound, Remains, NextIs}
 use Rattle.text.proofs.Spelling.{spelling-word}
 use Rattle.text.proofs.Going.{digit-is}
 use Rattle.text.proofs.Reading.{end-is}
 use Rattle.text.proofs.Grammatical.{ended, ended-bracketed, ended-following, parts-digit}
-use Rattle.text.proofs.Unique.{tails, tag, kind, kind-is, same-part}
+use Rattle.text.proofs.Unique.{tails, kind, kind-is, same-part}
 
 -- a whole phrase is left at the start
 pub remains-whole : (text : List ℕ) (p : Phrase) → Sound p → bytes p ≡ text → Remains text 0 (words 0 p)

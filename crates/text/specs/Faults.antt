@@ -1,4 +1,3 @@
-use Prim.Native.Nat.{ℕ}
 use Rattle.fault.specs.declared.fault.Fault.{Fault}
 use Rattle.fault.specs.declared.layer.Layer.{Layer}
 use Rattle.text.specs.declared.fault.TextFault.{TextFault}

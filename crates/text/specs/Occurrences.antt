@@ -3,7 +3,7 @@ use mathlib.Core.Path.{_≡_}
 use Prim.Native.Nat.{ℕ, _+_}
 use lib.ListN.{length}
 use Rattle.std.specs.shelf.Lists.{All}
-use Rattle.text.specs.Phrases.{Phrase, Phrases, variable, word, none, more, count, bytes, bracketed, following, Sound}
+use Rattle.text.specs.Phrases.{Phrase, Phrases, variable, word, none, more, count, bytes, Sound}
 
 -- A word in a text: the place of its first byte, its characters, and how many arguments it has.
 pub record Occurrence : Type 0 where

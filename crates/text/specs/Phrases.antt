@@ -1,6 +1,5 @@
 use mathlib.Core.Bool.{cond}
 use mathlib.Core.List.{List, [], _∷_, _++_}
-use mathlib.Core.Path.{_≡_}
 use Prim.Native.Nat.{ℕ, suc, _+_, _/_, _%_, _<_}
 use lib.Dec.{ltb}
 use Rattle.text.specs.Limits.{labels}

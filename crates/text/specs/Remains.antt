@@ -1,6 +1,6 @@
 use mathlib.Core.List.{List, [], _∷_, _++_}
 use mathlib.Core.Path.{_≡_}
-use Prim.Native.Nat.{ℕ, _+_, _<_, _≤_}
+use Prim.Native.Nat.{ℕ, _+_}
 use lib.ListN.{length, drop}
 use Rattle.text.specs.Phrases.{Phrase, Phrases, count, bytes, bracketed, following, Sound, AllSound}
 use Rattle.text.specs.Occurrences.{Occurrence, words, wordsAmong}

@@ -1,7 +1,7 @@
 use crate::token::Placed;
 use crate::token::SyntaxFault;
 use crate::token::Token;
-ghost use Prim.Native.Nat.{ℕ, _+_, _-_, _<_, _≤_};
+ghost use Prim.Native.Nat.{_+_, _-_, _<_, _≤_};
 ghost use Rattle.std.specs.Results.{Cases};
 ghost use Rattle.text.specs.Limits.{longestText, longestWord};
 ghost use Rattle.text.specs.Tokens.{Lexed, NoToken, Stop, digit, inWord, wordy};

@@ -4,7 +4,7 @@ use crate::words::WordAt;
 use crate::words::count_arguments;
 use crate::words::next_word;
 use vocabulary::Lexicon;
-ghost use Prim.Native.Nat.{ℕ, _≤_};
+ghost use Prim.Native.Nat.{_≤_};
 ghost use Rattle.std.specs.Options.{Cases as BySome};
 ghost use Rattle.std.specs.Orderings.{When};
 ghost use Rattle.std.specs.Results.{Cases};

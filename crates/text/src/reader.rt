@@ -1,17 +1,13 @@
-use crate::fault::TextFault;
-use crate::fault::TextFaultFromSyntax;
 use crate::lexer::lex;
 use crate::lexer::stray;
 use crate::token::SyntaxFault;
 use crate::token::Token;
-ghost use Prim.Native.Nat.{ℕ, _+_, _<_, _≤_};
+ghost use Prim.Native.Nat.{_+_, _<_, _≤_};
 ghost use Rattle.std.specs.Results.{Cases};
 ghost use Rattle.text.specs.Course.{ArgumentsStop, ArgumentsTo, PhraseStops, PhraseTo};
 ghost use Rattle.text.specs.Limits.{longestText};
 ghost use Rattle.text.specs.Texts.{IsText, StopsAt};
-ghost use Rattle.text.specs.declared.fault.TextFault.the-variants.{NoText};
 ghost use lib.ListN.{length};
-ghost use mathlib.Core.Path.{_≡_};
 
 /// Where the term that begins at the place ends.
 fn read_term(text: &[u8], at: usize) -> Result<usize, SyntaxFault>

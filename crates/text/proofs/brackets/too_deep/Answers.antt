@@ -1,7 +1,4 @@
-use mathlib.Core.Path.{_≡_}
-use Prim.Native.Nat.{_+_}
 use native.Mathlib.Omega.{arith}
-use lib.ListN.{getD}
 use borrow.Author.Count.{below-more}
 use Rattle.text.proofs.Depths.{one-more, no-more}
 use Rattle.text.proofs.brackets.too_deep.Needs as need

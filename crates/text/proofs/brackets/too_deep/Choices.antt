@@ -1,5 +1,5 @@
 use mathlib.Core.Path.{_≡_}
-use Prim.Native.Nat.{ℕ, _<_, _≤_}
+use Prim.Native.Nat.{_≤_}
 use lib.ListN.{take}
 use Rattle.fault.specs.Firsts.{Below}
 use Rattle.text.specs.Brackets.{often, Shallow}

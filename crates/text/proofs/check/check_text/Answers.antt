@@ -1,7 +1,5 @@
 use mathlib.Core.Path.{sym}
 use native.Mathlib.Omega.{arith}
-use Prim.Native.Nat.{_<_}
-use lib.ListN.{length}
 use borrow.Author.Tests.{eqb-true, eqb-false}
 use Rattle.std.proofs.shelf.Results.{err-from-errBy, cases-weaker}
 use Rattle.text.proofs.Judging.{judged, judged-fault, accepted-by, grammar-fault, unknown-fault, arguments-fault}

@@ -1,8 +1,8 @@
-use mathlib.Core.Path.{_≡_, refl, sym, ap, subst, _∙_}
+use mathlib.Core.Path.{refl, sym, subst}
 use mathlib.Core.Logic.{inl, inr}
 use native.Mathlib.Omega.{arith}
-use lib.ListN.{getD, length}
-use Prim.Native.Nat.{_+_, _≤_, _<_}
+use lib.ListN.{getD}
+use Prim.Native.Nat.{_+_, _≤_}
 use Rattle.text.specs.declared.token.Token.{Token}
 use Rattle.text.specs.declared.token.Token.the-variants.{Open, Close, Comma}
 use Rattle.text.specs.Tokens.{begins, Lexed}

@@ -1,6 +1,4 @@
-use mathlib.Core.Path.{_≡_, refl, sym, ap, subst, _∙_}
-use native.Mathlib.Omega.{arith}
-use Prim.Native.Nat.{ℕ}
+use mathlib.Core.Path.{sym, subst}
 use Rattle.std.proofs.shelf.Results.{err-from-errBy, cases-weaker}
 use Rattle.text.specs.Course.{PhraseStops, ArgumentsStop}
 use Rattle.text.proofs.Reading.{word-to, lexed-parts, lexed-opens, none-parts, none-opens, phrase-none, phrase-other, phrase-variable, phrase-plain, phrase-applied, phrase-applied-stops, arguments-first, arguments-unended, arguments-last, one-further}

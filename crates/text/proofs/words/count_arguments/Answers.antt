@@ -1,7 +1,7 @@
-use mathlib.Core.Path.{_≡_, sym, ap, subst, _∙_}
-use Prim.Native.Nat.{_+_, _<_}
+use mathlib.Core.Path.{sym, _∙_}
+use Prim.Native.Nat.{_+_}
 use native.Mathlib.Omega.{arith}
-use lib.ListN.{drop, length}
+use lib.ListN.{drop}
 use Rattle.std.proofs.shelf.Lists.{at-drop-all}
 use Rattle.text.proofs.Going.{opens}
 use Rattle.text.proofs.Spelling.{one-on, stop-at, stop-end}
