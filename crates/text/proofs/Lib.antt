@@ -1,0 +1,12 @@
+pub mod Spelling
+pub mod Going
+pub mod Reading
+pub mod Grammatical
+pub mod Depths
+pub mod Unique
+pub mod Tally
+pub mod Walk
+pub mod Passing
+pub mod Terms
+pub mod Judging
+pub mod Nesting

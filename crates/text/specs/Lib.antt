@@ -1,0 +1,14 @@
+pub mod Limits
+pub mod Phrases
+pub mod Texts
+pub mod Brackets
+pub mod Occurrences
+pub mod Meanings
+pub mod Writings
+pub mod Faults
+pub mod Sentences
+pub mod Verdicts
+pub mod Tokens
+pub mod Course
+pub mod Remains
+pub mod Lookups
