@@ -1,3 +1,4 @@
 pub mod Ascii
 pub mod Listings
 pub mod Telling
+pub mod Arities

@@ -4,3 +4,5 @@ pub mod Words
 pub mod Forms
 pub mod Laws
 pub mod Reports
+pub mod Floors
+pub mod Texts

@@ -22,10 +22,10 @@ use Rattle.account.specs.Words.{wordsText}
 
 -- The words of a book of marks, and of a book of lines.
 abbrev pub marksWords : List ℕ → List ℕ
-marksWords B = wordsText markOperations (λ m. m .value) (λ m. markText (m .value)) (wordsOf markOperations B) (spellingOf B)
+marksWords B = wordsText markOperations (λ m. markText (m .value)) (wordsOf markOperations B) (spellingOf B)
 
 abbrev pub linesWords : List ℕ → List ℕ
-linesWords B = wordsText lineOperations (λ l. l .set) (λ l. linesText (l .set)) (wordsOf lineOperations B) (spellingOf B)
+linesWords B = wordsText lineOperations (λ l. linesText (l .set)) (wordsOf lineOperations B) (spellingOf B)
 
 -- A sentence about what is wrong with a book.
 abbrev pub sentenceText : List ℕ → BookFault → List ℕ

@@ -20,12 +20,12 @@ argumentsText None = codes ", no word\n"
 abbrev pub headText : {D : Type 0} → Words D → (ℕ → Option (List ℕ)) → ℕ → List ℕ
 headText V spellings f = nameOf spellings f ++ argumentsText (known (V .count) (V .arity) f)
 
--- What is told of the words of a vocabulary: `number` is the code of a degree, `told` its words, `spellings` how words are spelled.
-module _ {D : Type 0} (S : Operations D) (number : D → ℕ) (told : D → List ℕ) (V : Words D) (spellings : ℕ → Option (List ℕ)) where
+-- What is told of the words of a vocabulary: `told` says a degree in words, `spellings` how words are spelled.
+module _ {D : Type 0} (S : Operations D) (told : D → List ℕ) (V : Words D) (spellings : ℕ → Option (List ℕ)) where
   -- How much f is alike to g: nothing where they are the same word, or not alike at all.
   abbrev pub likeText : ℕ → ℕ → List ℕ
   likeText f g =
-      cond (eqb f g || eqb (number (V .likeness f g)) (number (S .bottom))) []
+      cond (eqb f g || S .same (V .likeness f g) (S .bottom)) []
       (codes "  alike to " ++ (nameOf spellings g ++ (codes " at " ++ (told (V .likeness f g) ++ codes "\n"))))
 
   -- The word f, and the words that it is alike to.

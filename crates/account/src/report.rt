@@ -56,7 +56,7 @@ fn sentence(heap: Global, bytes: &[u8], fault: BookFault) -> Result<String, Allo
 }
 
 /// What is told of a book that is refused.
-fn refusal(heap: Global, bytes: &[u8], fault: BookFault) -> Result<String, AllocError>
+pub fn refusal(heap: Global, bytes: &[u8], fault: BookFault) -> Result<String, AllocError>
     requires { ⌜ Verdict (now bytes) (Err fault) ⌝ }
     ensures { λ r. ⌜ made r (λ s. string-bytes s ≡ refusalText (now (bytes .entry)) fault) ⌝ }
 {

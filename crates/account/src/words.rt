@@ -17,10 +17,10 @@ fn like_line<D: Told, V: Vocabulary<Degree = D>, L: Lexicon>(
     f: u16,
     g: u16,
 ) -> Result<String, AllocError>
-    ensures { λ r. ⌜ made r (λ s. string-bytes s ≡ likeText (D·Scale .operations) (D·Coded .number) (D·Told .told) (V·Vocabulary .model (now (words .entry))) (L·Lexicon .spellings (now (lexicon .entry))) f g) ⌝ }
+    ensures { λ r. ⌜ made r (λ s. string-bytes s ≡ likeText (D·Scale .operations) (D·Told .told) (V·Vocabulary .model (now (words .entry))) (L·Lexicon .spellings (now (lexicon .entry))) f g) ⌝ }
 {
     let degree = words.likeness(f, g);
-    if f == g || degree.code() == D::bottom().code() {
+    if f == g || degree.same(D::bottom()) {
         return Ok(String::new(heap));
     }
     let other = name(heap, lexicon, g)?;
@@ -59,7 +59,7 @@ fn word_lines<D: Told, V: Vocabulary<Degree = D>, L: Lexicon>(
     lexicon: &L,
     f: u16,
 ) -> Result<String, AllocError>
-    ensures { λ r. ⌜ made r (λ s. string-bytes s ≡ wordText (D·Scale .operations) (D·Coded .number) (D·Told .told) (V·Vocabulary .model (now (words .entry))) (L·Lexicon .spellings (now (lexicon .entry))) f) ⌝ }
+    ensures { λ r. ⌜ made r (λ s. string-bytes s ≡ wordText (D·Scale .operations) (D·Told .told) (V·Vocabulary .model (now (words .entry))) (L·Lexicon .spellings (now (lexicon .entry))) f) ⌝ }
 {
     let mut text = head_line(heap, words, lexicon, f)?;
     for g in 0..words.count() {
@@ -75,7 +75,7 @@ pub fn account<D: Told, V: Vocabulary<Degree = D>, L: Lexicon>(
     words: &V,
     lexicon: &L,
 ) -> Result<String, AllocError>
-    ensures { λ r. ⌜ made r (λ s. string-bytes s ≡ wordsText (D·Scale .operations) (D·Coded .number) (D·Told .told) (V·Vocabulary .model (now (words .entry))) (L·Lexicon .spellings (now (lexicon .entry)))) ⌝ }
+    ensures { λ r. ⌜ made r (λ s. string-bytes s ≡ wordsText (D·Scale .operations) (D·Told .told) (V·Vocabulary .model (now (words .entry))) (L·Lexicon .spellings (now (lexicon .entry)))) ⌝ }
 {
     let mut text = String::new(heap);
     for f in 0..words.count() {

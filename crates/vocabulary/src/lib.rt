@@ -1,8 +1,10 @@
 // What the matcher asks of words: how many arguments, how much alike, how spelled. It knows no format.
+mod arity_list;
 mod lexicon;
 mod spelling;
 mod vocabulary;
 
+pub use arity_list::arities;
 pub use lexicon::Lexicon;
 pub use spelling::same_spelling;
 pub use spelling::spells;

@@ -10,4 +10,4 @@ Inv-loop-f g l =
     string-bytes (l .text) ≡
     [] ++
     listing (l .f)
-    (wordText (g .D·Scale .operations) (g .D·Coded .number) (g .D·Told .told) (g .V·Vocabulary .model (l .words)) (g .L·Lexicon .spellings (l .lexicon)))
+    (wordText (g .D·Scale .operations) (g .D·Told .told) (g .V·Vocabulary .model (l .words)) (g .L·Lexicon .spellings (l .lexicon)))

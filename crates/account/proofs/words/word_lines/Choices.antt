@@ -10,4 +10,4 @@ Inv-loop-g g l =
     string-bytes (l .text) ≡
     headText (g .V·Vocabulary .model (l .words)) (g .L·Lexicon .spellings (l .lexicon)) (l .f) ++
     listing (l .g)
-    (likeText (g .D·Scale .operations) (g .D·Coded .number) (g .D·Told .told) (g .V·Vocabulary .model (l .words)) (g .L·Lexicon .spellings (l .lexicon)) (l .f))
+    (likeText (g .D·Scale .operations) (g .D·Told .told) (g .V·Vocabulary .model (l .words)) (g .L·Lexicon .spellings (l .lexicon)) (l .f))
