@@ -9,6 +9,9 @@ use fault::Cause;
 use fault::FaultDisplay;
 use std::error::AnyError;
 
+#[cfg(test)]
+mod tests;
+
 /// The bytes of one item, put behind `bytes`.
 fn put(bytes: &mut Vec<u8>, item: &str) -> Result<(), AnyError> {
     if let Some(number) = item.strip_prefix("b") {
