@@ -1,4 +1,4 @@
-use lists::MOST_WORDS;
+use vocabulary::MOST_WORDS;
 ghost use Prim.Native.Nat.{_≤_};
 ghost use lib.ListN.{length};
 ghost use mathlib.Core.Path.{_≡_};

@@ -1,4 +1,6 @@
 use crate::fault::EntryFault;
+use vocabulary::LONGEST_SPELLING;
+use vocabulary::MOST_ARGUMENTS;
 use vocabulary::same_spelling;
 use vocabulary::spells;
 ghost use Prim.Native.Nat.{ℕ, _+_, _<_, _≤_};
@@ -9,12 +11,6 @@ ghost use Rattle.std.specs.Options.{Cases as BySome, mapped};
 ghost use Rattle.std.specs.Results.{Cases};
 ghost use lib.ListN.{length};
 ghost use mathlib.Core.Path.{_≡_};
-
-/// The most arguments that a word takes.
-const MOST_ARGUMENTS: u8 = 6;
-
-/// The most characters that a spelling has.
-const LONGEST: u8 = 16;
 
 /// Where the entry of word `i` begins, or where the entries end.
 pub fn locate(bytes: &[u8], i: u8) -> usize
@@ -64,7 +60,7 @@ fn entry(bytes: &[u8], i: u8, at: usize) -> Result<usize, EntryFault>
         return Err(EntryFault::Cut);
     }
     let size = bytes[at + 1];
-    if size < 1 || size > LONGEST {
+    if size < 1 || size as usize > LONGEST_SPELLING {
         return Err(EntryFault::Length);
     }
     let end = at + 2 + size as usize;

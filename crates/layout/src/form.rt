@@ -1,6 +1,7 @@
 use crate::entries::entries;
 use crate::fault::EntryFormFault;
 use crate::fault::FormFault;
+use vocabulary::MOST_WORDS;
 ghost use Rattle.layout.specs.Forms.{BadForm, GoodForm, Headed};
 ghost use Rattle.layout.specs.declared.fault.FormFault.{FormFault};
 ghost use Rattle.std.specs.Results.{Cases};
@@ -8,9 +9,6 @@ ghost use mathlib.Core.Path.{_≡_};
 
 /// The version of a book that is known.
 const VERSION: u8 = 1;
-
-/// The most words that a book has.
-const MOST_WORDS: u8 = 128;
 
 /// Refuses bytes whose header is not that of a book.
 fn check_header(bytes: &[u8]) -> Result<(), FormFault>
@@ -28,7 +26,7 @@ fn check_header(bytes: &[u8]) -> Result<(), FormFault>
     if bytes[3] != 1 && bytes[3] != 2 {
         return Err(FormFault::Kind(bytes[3]));
     }
-    if bytes[4] < 1 || bytes[4] > MOST_WORDS {
+    if bytes[4] < 1 || bytes[4] as usize > MOST_WORDS {
         return Err(FormFault::Count(bytes[4]));
     }
     Ok(())

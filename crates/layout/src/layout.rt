@@ -1,6 +1,7 @@
 use crate::entries::find;
 use crate::entries::locate;
 use vocabulary::Lexicon;
+use vocabulary::MOST_WORDS;
 ghost use Prim.Native.Nat.{ℕ, _+_, _*_, _<_, _≤_};
 ghost use Rattle.fault.specs.Firsts.{Below};
 ghost use Rattle.layout.specs.Entries.{GoodEntry, Present};
@@ -84,11 +85,11 @@ impl<'a> Layout<'a> {
     }
 
     /// The arities of all words, each at its number, and 0 behind them.
-    pub fn arities(&self) -> [u8; 128]
+    pub fn arities(&self) -> [u8; MOST_WORDS]
         ensures rest { λ r. ⌜ ((k : ℕ) → countOf (now (now (self .entry) .bytes)) ≤ k → getD r k 0 ≡ 0) ⌝ }
         ensures places { λ r. ⌜ Below (countOf (now (now (self .entry) .bytes))) (λ i. getD r i 0 ≡ arityAt (now (now (self .entry) .bytes)) i) ⌝ }
     {
-        let mut arities = [0; 128];
+        let mut arities = [0; MOST_WORDS];
         let mut at = 5;
         for i in 0..self.count {
             arities[i as usize] = self.bytes[at];

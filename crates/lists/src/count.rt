@@ -1,8 +1,6 @@
+use vocabulary::MOST_WORDS;
 ghost use Rattle.lists.specs.Counts.{Counted};
 ghost use Rattle.std.specs.Orderings.{Decides};
-
-/// The most words that a vocabulary may have.
-pub const MOST_WORDS: usize = 128;
 
 /// Whether so many words may be: 1 to 128.
 pub fn fits(count: usize) -> bool

@@ -1,4 +1,4 @@
-use crate::count::MOST_WORDS;
+use vocabulary::MOST_WORDS;
 ghost use Rattle.fault.specs.Firsts.{Below};
 ghost use lib.ListN.{length, getD};
 ghost use mathlib.Core.Path.{_≡_};

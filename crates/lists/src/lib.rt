@@ -2,6 +2,5 @@
 mod count;
 mod fixed;
 
-pub use count::MOST_WORDS;
 pub use count::fits;
 pub use fixed::kept;

@@ -1,6 +1,7 @@
 use crate::token::Placed;
 use crate::token::SyntaxFault;
 use crate::token::Token;
+use vocabulary::LONGEST_SPELLING;
 ghost use Prim.Native.Nat.{_+_, _-_, _<_, _≤_};
 ghost use Rattle.std.specs.Results.{Cases};
 ghost use Rattle.text.specs.Limits.{longestText, longestWord};
@@ -8,9 +9,6 @@ ghost use Rattle.text.specs.Tokens.{Lexed, NoToken, Stop, digit, inWord, wordy
 ghost use lib.ListN.{drop, getD, length, take};
 ghost use mathlib.Core.Bool.{true};
 ghost use mathlib.Core.Path.{_≡_};
-
-/// The most characters of a word.
-const LONGEST_WORD: usize = 16;
 
 /// The first digit that no other follows.
 const ZERO: u8 = 0;
@@ -49,7 +47,7 @@ fn word_end(text: &[u8], at: usize) -> usize
     ensures stops { λ r. ⌜ (r < at + longestWord → Stop inWord (drop r (now (text .entry)))) ⌝ }
 {
     let mut end = at + 1;
-    while end < text.len() && end - at < LONGEST_WORD && goes_on(text[end]) {
+    while end < text.len() && end - at < LONGEST_SPELLING && goes_on(text[end]) {
         end += 1;
     }
     end

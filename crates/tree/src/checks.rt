@@ -2,6 +2,7 @@ use crate::fault::Flaw;
 use crate::fault::TreeFault;
 use lists::fits;
 use scale::Scale;
+use vocabulary::MOST_ARGUMENTS;
 ghost use Prim.Native.Nat.{_<_};
 ghost use Rattle.std.specs.Results.{Cases as ByOk};
 ghost use Rattle.std.specs.declared.result.Result.{Result};
@@ -10,9 +11,6 @@ ghost use Rattle.tree.specs.Verdicts.{Unfit, Verdict};
 ghost use Rattle.tree.specs.declared.fault.TreeFault.{TreeFault};
 ghost use lib.ListN.{length};
 ghost use mathlib.Core.Path.{_≡_};
-
-/// The most arguments that a word may take.
-const MOST_ARGUMENTS: u8 = 6;
 
 /// Whether the word is fit: its arity, then its parent, then its code.
 fn check_word<S: Scale>(

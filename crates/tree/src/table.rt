@@ -1,4 +1,4 @@
-use lists::MOST_WORDS;
+use vocabulary::MOST_WORDS;
 ghost use Prim.Native.Nat.{_≤_};
 ghost use Rattle.fault.specs.Firsts.{Below};
 ghost use lib.ListN.{getD, length};
