@@ -33,7 +33,7 @@ textRefused text f = shownRefusal (textRefusal Sentence f) text (caretText (text
 
 -- What is told of a text by the verdict on it.
 abbrev pub textReport : List ℕ → Result (Unit {0}) TextFault → List ℕ
-textReport text (Ok done) = text ++ codes "\nThis is a text of the book.\n"
+textReport text (Ok done) = text ++ codes "\nThis is the text of one term over the words of the book.\n"
 textReport text (Err f) = textRefused text f
 
 -- The arities of n words as a list.

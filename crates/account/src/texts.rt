@@ -62,7 +62,7 @@ fn text_verdict(
 {
     match verdict {
         Ok(()) => {
-            let told = format!(heap, "{text}\nThis is a text of the book.\n")?;
+            let told = format!(heap, "{text}\nThis is the text of one term over the words of the book.\n")?;
             Ok(Report {
                 accepted: true,
                 text: told,
