@@ -1,4 +1,2 @@
 pub mod Ascii
 pub mod Listings
-pub mod Telling
-pub mod Arities

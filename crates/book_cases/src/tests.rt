@@ -1,7 +1,4 @@
 // What a made book answers, and what is told of books: values worked out by hand.
-use account::report_above;
-use account::report_on;
-use account::report_text;
 use book::BookFault;
 use book::BookFaultDebug;
 use book::BookFaultPartialEq;
@@ -15,6 +12,9 @@ use book::MarksBook;
 use book::MarksLexicon;
 use book::MarksVocabulary;
 use book::check as check_book;
+use report::report_above;
+use report::report_on;
+use report::report_text;
 use scale::Coded;
 use scale::LinesCoded;
 use scale::LinesScale;

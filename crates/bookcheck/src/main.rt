@@ -1,8 +1,8 @@
-// Reads a book, checks it, and prints what is to be told of it. All that it says is worked out in `account`.
-use account::Report;
-use account::report_above;
-use account::report_on;
-use account::report_text;
+// Reads a book, checks it, and prints what is to be told of it. All that it says is worked out in `report`.
+use report::Report;
+use report::report_above;
+use report::report_on;
+use report::report_text;
 use std::alloc::AllocError;
 use std::alloc::Global;
 use std::env;
