@@ -1,0 +1,4 @@
+pub mod Calls
+pub mod Labels
+pub mod Sheets
+pub mod Stored
