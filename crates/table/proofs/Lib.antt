@@ -4,3 +4,4 @@ pub mod Hands
 pub mod Fresh
 pub mod Growing
 pub mod Facts
+pub mod Joins

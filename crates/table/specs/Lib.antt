@@ -1,4 +1,7 @@
 pub mod Calls
+pub mod Equating
+pub mod Joined
+pub mod Joining
 pub mod Labels
 pub mod Sheets
 pub mod Stored

@@ -47,6 +47,16 @@ impl Row {
         }
     }
 
+    /// Whether this is a word with arguments, or without.
+    pub fn is_composed(&self) -> bool
+        ensures { λ r. ⌜ Decides r (kind (some (rowOf (now (self .entry)))) ≡ 0) ⌝ }
+    {
+        match self {
+            Row::Variable(_) => false,
+            Row::Composed(_, _, _) => true,
+        }
+    }
+
     /// Whether this is the variable of that label.
     pub fn is_variable(&self, label: u16) -> bool
         ensures { λ r. ⌜ Decides r (rowOf (now (self .entry)) ≡ variable label) ⌝ }

@@ -1,7 +1,9 @@
 use crate::row::Row;
 ghost use Prim.Native.Nat.{ℕ, _+_, _<_, _≤_};
 ghost use Rattle.fault.specs.Firsts.{Below};
+ghost use Rattle.std.specs.Orderings.{Decides};
 ghost use Rattle.table.specs.Stored.{InSlots, Lower, Slots, argsAt, argsOf, rank, rowOf, rowsOf};
+ghost use Rattle.unification.specs.Closures.{kind};
 ghost use lib.ListN.{getD, getElem?, length};
 ghost use mathlib.Core.List.{[], _++_, _∷_};
 ghost use mathlib.Core.Option.{some};
@@ -62,6 +64,14 @@ impl Rows {
         ensures below { λ r. ⌜ r < p ⌝ }
     {
         self.items[p].slot(k) as usize
+    }
+
+    /// Whether row `p` is composed.
+    pub fn is_composed(&self, p: usize) -> bool
+        requires { ⌜ p < now self .len ⌝ }
+        ensures { λ r. ⌜ Decides r (kind (getElem? (rowsOf (now (self .entry) .items) (now (self .entry) .len)) p) ≡ 0) ⌝ }
+    {
+        self.items[p].is_composed()
     }
 
     /// The rank of row `p`.

@@ -1,13 +1,18 @@
+use crate::closing::merge;
+use crate::equations::Equation;
 use crate::equations::Equations;
+use crate::fault::JoinFault;
 use crate::fault::RowFault;
+use crate::joining::close;
 use crate::numbers::Numbers;
 use crate::row::Row;
 use crate::rows::Rows;
 ghost use Prim.Native.Nat.{ℕ, _+_, _<_, _≤_};
 ghost use Rattle.fault.specs.Firsts.{Below, First1};
 ghost use Rattle.table.specs.Calls.{ComposeGives, KeptOnErr, Unlabelled, VariableGives};
+ghost use Rattle.table.specs.Equating.{JoinAnswers};
 ghost use Rattle.table.specs.Sheets.{sheetOf};
-ghost use Rattle.table.specs.Stored.{InSlots, argsOf, at, depthAt, rowOf};
+ghost use Rattle.table.specs.Stored.{InSlots, argsOf, at, depthAt, equationOf, rowOf};
 ghost use Rattle.std.specs.Options.{Cases as BySome};
 ghost use Rattle.unification.specs.Closures.{IsDepth, Representative};
 ghost use Rattle.unification.specs.Sheets.{At, Fits, IsCoherent, appended, fresh, variable};
@@ -167,6 +172,30 @@ impl Table {
         let depth = self.depth_above(rows);
         self.push(Row::Composed(word, rows.len() as u8, slots(rows)), depth);
         Ok(n as u16)
+    }
+
+    /// The class of each row with one more equation, numbered by its representative. The table stays as it is.
+    pub fn join(&self, e: Equation) -> Result<Numbers, JoinFault>
+        ensures { λ r. ⌜ JoinAnswers (sheetOf (now (self .entry) .rows) (now (self .entry) .equations)) (equationOf e) r ⌝ }
+    {
+        let n = self.rows.len();
+        if e.left as usize >= n {
+            return Err(JoinFault::Missing(0));
+        }
+        if e.right as usize >= n {
+            return Err(JoinFault::Missing(1));
+        }
+        if self.equations.len() >= 128 {
+            return Err(JoinFault::Full);
+        }
+        let mut equations = self.equations;
+        equations.push(e);
+        let mut classes = self.classes;
+        merge(&self.rows, &mut classes, e.left as usize, e.right as usize);
+        match close(&self.rows, &equations, &classes) {
+            Ok(classes) => Ok(classes),
+            Err(u) => Err(JoinFault::Unequal(u)),
+        }
     }
 }
 
