@@ -134,7 +134,7 @@ module _ {s : Sheet} (I : IsCoherent s) (c : List ℕ) (R : Represents s (at c))
             let m = depth-old (getD xs i 0) u in
             omega arith
 
-    pub shallow-grown : Below (length (s .rows)) (λ p. depthAt c d p < length (s .rows)) → x ≤ length (s .rows) → Below (length (s .rows) + 1) (λ p. depthAt grown deeper p < length (s .rows) + 1)
+    pub shallow-grown : Below (length (s .rows)) (λ p. depthAt c d p ≤ length (s .rows)) → x ≤ length (s .rows) + 1 → Below (length (s .rows) + 1) (λ p. depthAt grown deeper p ≤ length (s .rows) + 1)
     shallow-grown k hx p hp =
         elim (cases-eq p (length (s .rows))) [
           | inl e ↦ let l = ap (depthAt grown deeper) e ∙ depth-new in omega arith

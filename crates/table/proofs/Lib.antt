@@ -5,3 +5,5 @@ pub mod Fresh
 pub mod Growing
 pub mod Facts
 pub mod Joins
+pub mod Deeps
+pub mod Equated

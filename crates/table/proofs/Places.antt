@@ -12,12 +12,16 @@ use Rattle.table.specs.Stored.{InSlots, Lower, Slots, argsAt, argsOf, countOf,
 use Rattle.table.specs.declared.equations.Equation.{Equation}
 use Rattle.table.specs.declared.row.Row.{Row}
 use Rattle.table.specs.declared.row.Row.the-variants.{Variable, Composed}
+use Rattle.table.specs.declared.rows.Rows.{Rows}
 use Rattle.unification.proofs.Reading.{at-getD}
 use Rattle.unification.specs.Closures.{kind}
 use Rattle.unification.specs.Sheets as theory
 
 pub rows-length : (items : List Row) (n : ℕ) → n ≤ length items → length (rowsOf items n) ≡ n
 rows-length items n h = length-map (take n items) rowOf ∙ length-take-le n items h
+
+pub counted : (rows : Rows) → length (rowsOf (rows .items) (rows .len)) ≡ rows .len
+counted rows = rows-length (rows .items) (rows .len) (let a = rows .within in let b = rows .size in omega arith)
 
 pub equations-length : (items : List Equation) (m : ℕ) → m ≤ length items → length (equationsOf items m) ≡ m
 equations-length items m h = length-map (take m items) equationOf ∙ length-take-le m items h

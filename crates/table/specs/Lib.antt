@@ -1,4 +1,5 @@
 pub mod Calls
+pub mod Deepening
 pub mod Equating
 pub mod Joined
 pub mod Joining

@@ -1,4 +1,5 @@
 use crate::closing::merge;
+use crate::deepening::deepen;
 use crate::equations::Equation;
 use crate::equations::Equations;
 use crate::fault::JoinFault;
@@ -10,12 +11,13 @@ use crate::rows::Rows;
 ghost use Prim.Native.Nat.{ℕ, _+_, _<_, _≤_};
 ghost use Rattle.fault.specs.Firsts.{Below, First1};
 ghost use Rattle.table.specs.Calls.{ComposeGives, KeptOnErr, Unlabelled, VariableGives};
-ghost use Rattle.table.specs.Equating.{JoinAnswers};
+ghost use Rattle.table.specs.Equating.{Between, Deep, DeepenAnswers, JoinAnswers};
+ghost use Rattle.table.specs.Joining.{Uniform};
 ghost use Rattle.table.specs.Sheets.{sheetOf};
 ghost use Rattle.table.specs.Stored.{InSlots, argsOf, at, depthAt, equationOf, rowOf};
 ghost use Rattle.std.specs.Options.{Cases as BySome};
 ghost use Rattle.unification.specs.Closures.{IsDepth, Representative};
-ghost use Rattle.unification.specs.Sheets.{At, Fits, IsCoherent, appended, fresh, variable};
+ghost use Rattle.unification.specs.Sheets.{At, Fits, IsCoherent, appended, equated, fresh, variable};
 ghost use Rattle.unification.specs.Tables.{Represents};
 ghost use lib.ListN.{getD, length, take};
 ghost use mathlib.Core.Option.{some};
@@ -33,7 +35,7 @@ pub struct Table {
     ghost represents: { ∥ Represents (sheetOf rows equations) (at (classes .of)) ∥₁ },
     ghost falls: { IsDepth (sheetOf rows equations) (depthAt (classes .of) (depths .of)) },
     ghost within: { Below (rows .len) (λ p. at (classes .of) p < rows .len) },
-    ghost shallow: { Below (rows .len) (λ p. depthAt (classes .of) (depths .of) p < rows .len) },
+    ghost shallow: { Below (rows .len) (λ p. depthAt (classes .of) (depths .of) p ≤ rows .len) },
 }
 
 impl Table {
@@ -101,7 +103,7 @@ impl Table {
         requires slots { ⌜ InSlots row ⌝ }
         requires fits { ⌜ Fits (sheetOf (now self .rows) (now self .equations)) (rowOf row) ⌝ }
         requires above { ⌜ Below (length (argsOf (some (rowOf row)))) (λ i. depthAt (now self .classes .of) (now self .depths .of) (getD (argsOf (some (rowOf row))) i 0) < depth) ⌝ }
-        requires shallow { ⌜ depth ≤ now self .rows .len ⌝ }
+        requires shallow { ⌜ depth ≤ now self .rows .len + 1 ⌝ }
         ensures { λ _. ⌜ sheetOf (now (self .exit) .rows) (now (self .exit) .equations) ≡ appended (sheetOf (now (self .entry) .rows) (now (self .entry) .equations)) (rowOf row) ⌝ }
     {
         let n = self.rows.len();
@@ -133,7 +135,7 @@ impl Table {
     fn depth_of(&self, p: usize) -> usize
         requires { ⌜ p < now self .rows .len ⌝ }
         ensures value { λ r. ⌜ r ≡ depthAt (now (self .entry) .classes .of) (now (self .entry) .depths .of) p ⌝ }
-        ensures bound { λ r. ⌜ r < now (self .entry) .rows .len ⌝ }
+        ensures bound { λ r. ⌜ r ≤ now (self .entry) .rows .len ⌝ }
     {
         self.depths.of(self.classes.of(p))
     }
@@ -142,7 +144,7 @@ impl Table {
     fn depth_above(&self, rows: &[u16]) -> u16
         requires { ⌜ Below (length (now rows)) (λ i. getD (now rows) i 0 < now self .rows .len) ⌝ }
         ensures above { λ r. ⌜ Below (length (now (rows .entry))) (λ i. depthAt (now (self .entry) .classes .of) (now (self .entry) .depths .of) (getD (now (rows .entry)) i 0) < r) ⌝ }
-        ensures shallow { λ r. ⌜ r ≤ now (self .entry) .rows .len ⌝ }
+        ensures shallow { λ r. ⌜ r ≤ now (self .entry) .rows .len + 1 ⌝ }
     {
         let mut above = 0;
         for p in rows {
@@ -196,6 +198,32 @@ impl Table {
             Ok(classes) => Ok(classes),
             Err(u) => Err(JoinFault::Unequal(u)),
         }
+    }
+
+    /// The depth of each class with one more equation, whose classes are these; nothing where there is a cycle.
+    pub fn deepen(&self, e: Equation, classes: &Numbers) -> Option<Numbers>
+        requires between { ⌜ Between (sheetOf (now self .rows) (now self .equations)) (equationOf e) ⌝ }
+        requires represents { ⌜ Represents (equated (sheetOf (now self .rows) (now self .equations)) (equationOf e)) (at (now classes .of)) ⌝ }
+        requires uniform { ⌜ Uniform ((sheetOf (now self .rows) (now self .equations)) .rows) (length ((sheetOf (now self .rows) (now self .equations)) .rows)) (now classes .of) ⌝ }
+        ensures { λ r. ⌜ DeepenAnswers (equated (sheetOf (now (self .entry) .rows) (now (self .entry) .equations)) (equationOf e)) (now (classes .entry) .of) r ⌝ }
+    {
+        match deepen(&self.rows, classes) {
+            Ok(depths) => Some(depths),
+            Err(_) => None,
+        }
+    }
+
+    /// Puts the equation at the end of the others, with the classes and depths that it makes.
+    pub fn commit(&mut self, e: Equation, classes: &Numbers, depths: &Numbers)
+        requires between { ⌜ Between (sheetOf (now self .rows) (now self .equations)) (equationOf e) ⌝ }
+        requires room { ⌜ length ((sheetOf (now self .rows) (now self .equations)) .equations) < 128 ⌝ }
+        requires represents { ⌜ Represents (equated (sheetOf (now self .rows) (now self .equations)) (equationOf e)) (at (now classes .of)) ⌝ }
+        requires deep { ⌜ Deep (equated (sheetOf (now self .rows) (now self .equations)) (equationOf e)) (now classes .of) (now depths .of) ⌝ }
+        ensures { λ _. ⌜ sheetOf (now (self .exit) .rows) (now (self .exit) .equations) ≡ equated (sheetOf (now (self .entry) .rows) (now (self .entry) .equations)) (equationOf e) ⌝ }
+    {
+        self.equations.push(e);
+        self.classes = *classes;
+        self.depths = *depths;
     }
 }
 

@@ -5,20 +5,16 @@ use native.Mathlib.Omega.{arith}
 use lib.ListN.{length}
 use Rattle.table.proofs.Hands.{coherent-at-hand}
 use Rattle.table.proofs.Joins.{apart-left, apart-right, apart-together, differ-unlike, merged-falls, represents-joined, sides-merged, sound-merged}
-use Rattle.table.proofs.Places.{rows-length}
+use Rattle.table.proofs.Places.{counted}
 use Rattle.table.proofs.joining.close.Needs as need
 use Rattle.table.specs.Joining.{Sides, Sound, labels}
 use Rattle.table.specs.Sheets.{sheetOf}
-use Rattle.table.specs.Stored.{rowsOf}
 use Rattle.table.specs.declared.numbers.Numbers.{Numbers}
 use Rattle.table.specs.declared.rows.Rows.{Rows}
 use Rattle.unification.specs.Sheets.{Sheet}
 
 long : (rows : Rows) (k : Numbers) → rows .len ≤ length (k .of)
 long rows k = let a = rows .within in let b = k .size in omega arith
-
-counted : (rows : Rows) → length (rowsOf (rows .items) (rows .len)) ≡ rows .len
-counted rows = rows-length (rows .items) (rows .len) (let a = rows .within in let b = rows .size in omega arith)
 
 pub find-apart-requires : need.find-apart-requires
 find-apart-requires c κs = record { within = c .loop-x .inv .0 .within }

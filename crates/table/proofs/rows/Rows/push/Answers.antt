@@ -24,7 +24,7 @@ ghost-self c =
           slots-pushed (t .items) (t .len) (c .args .row) h (t .slots) (c .pre .slots),
           (
             subst Lower (sym (rows-pushed (t .items) (t .len) (c .args .row) h)) (lower-pushed (rowsOf (t .items) (t .len)) (rowOf (c .args .row)) (t .lower)
-            (λ i k. subst (λ (z : ℕ). getD (argsOf (some (rowOf (c .args .row)))) i 0 < z) (sym n) (c .pre .lower i k))),
+                (λ i k. subst (λ (z : ℕ). getD (argsOf (some (rowOf (c .args .row)))) i 0 < z) (sym n) (c .pre .lower i k))),
             tt,
           ),
         ),

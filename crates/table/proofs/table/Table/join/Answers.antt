@@ -1,20 +1,19 @@
 use Prim.Native.Nat.{ℕ, _<_, _≤_}
-use mathlib.Core.List.{List, [], _∷_, _++_}
-use mathlib.Core.Path.{_≡_, ap, subst, sym}
+use mathlib.Core.List.{List}
+use mathlib.Core.Path.{_≡_, subst, sym}
 use native.Mathlib.Omega.{arith}
 use lib.ListN.{length}
+use Rattle.table.proofs.Equated.{put-down}
 use Rattle.table.proofs.Hands.{coherent-at-hand, represents-at-hand}
 use Rattle.table.proofs.Joins.{sides-equated, sound-joined}
-use Rattle.table.proofs.Places.{rows-length}
+use Rattle.table.proofs.Places.{counted}
 use Rattle.table.proofs.table.Table.join.Needs as need
 use Rattle.table.specs.Joining.{Sides, Sound, merged}
 use Rattle.table.specs.Sheets.{sheetOf}
-use Rattle.table.specs.Stored.{equationOf, equationsOf, rowsOf}
+use Rattle.table.specs.Stored.{equationOf}
 use Rattle.table.specs.declared.equations.Equation.{Equation}
-use Rattle.table.specs.declared.equations.Equations.{Equations}
 use Rattle.table.specs.declared.table.Table.{Table}
 use Rattle.unification.proofs.Bridges.{equated-coherent}
-use Rattle.unification.specs.Sheets as theory
 use Rattle.unification.specs.Sheets.{Sheet, IsCoherent, equated}
 
 -- The table's classes, joined by an equation between rows, fit the sheet with that equation.
@@ -22,17 +21,14 @@ module _ (t : Table) (e : Equation) (hl : e .left < t .rows .len) (hr : e .right
   abbrev before : Sheet
   before = sheetOf (t .rows) (t .equations)
 
-  counted : length (rowsOf (t .rows .items) (t .rows .len)) ≡ t .rows .len
-  counted = rows-length (t .rows .items) (t .rows .len) (let a = t .rows .within in let b = t .rows .size in omega arith)
-
   left : e .left < length (before .rows)
-  left = let n = counted in omega arith
+  left = let n = counted (t .rows) in omega arith
 
   right : e .right < length (before .rows)
-  right = let n = counted in omega arith
+  right = let n = counted (t .rows) in omega arith
 
   few : length (before .rows) ≤ 512
-  few = let n = counted in let a = t .rows .within in omega arith
+  few = let n = counted (t .rows) in let a = t .rows .within in omega arith
 
   long : length (before .rows) ≤ length (t .classes .of)
   long = let a = few in let b = t .classes .size in omega arith
@@ -42,15 +38,11 @@ module _ (t : Table) (e : Equation) (hl : e .left < t .rows .len) (hr : e .right
 
   sound : Sound (equated before (equationOf e)) (t .rows .len) (merged (before .rows) (t .classes .of) (e .left) (e .right))
   sound =
-      subst (λ (z : ℕ). Sound (equated before (equationOf e)) z (merged (before .rows) (t .classes .of) (e .left) (e .right))) counted
+      subst (λ (z : ℕ). Sound (equated before (equationOf e)) z (merged (before .rows) (t .classes .of) (e .left) (e .right))) (counted (t .rows))
       (sound-joined (coherent-at-hand (t .coherent)) (t .classes .of) (represents-at-hand (coherent-at-hand (t .coherent)) (t .represents)) (equationOf e) few long left right)
 
   sides : Sides (equated before (equationOf e)) (merged (before .rows) (t .classes .of) (e .left) (e .right))
   sides = sides-equated (coherent-at-hand (t .coherent)) (t .classes .of) (represents-at-hand (coherent-at-hand (t .coherent)) (t .represents)) (equationOf e) few long left right
-
--- The sheet after the equation was put down.
-pub put-down : (t : Table) (e : Equation) (u : Equations) → equationsOf (u .items) (u .len) ≡ equationsOf (t .equations .items) (t .equations .len) ++ (equationOf e ∷ []) → sheetOf (t .rows) u ≡ equated (sheetOf (t .rows) (t .equations)) (equationOf e)
-put-down t e u h = ap (λ (l : List theory.Equation). record { rows = rowsOf (t .rows .items) (t .rows .len); equations = l }) h
 
 pub close-requires : need.close-requires
 close-requires c κs =

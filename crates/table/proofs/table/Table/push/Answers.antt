@@ -28,4 +28,4 @@ ghost-self c =
     (c .put-2 .ensures ∙ ap (λ (z : ℕ). set (t .depths .of) z (c .args .depth)) n)
     (facts-grown s (t .classes .of) (t .depths .of)
     (subst (λ (z : ℕ). Facts s z (t .classes .of) (t .depths .of)) e (t .coherent, (t .represents, (t .falls, (t .within, (t .shallow, tt))))))
-    (rowOf (c .args .row)) (c .pre .fits) (omega arith) (omega arith) (c .args .depth) (c .pre .above) (subst (λ (z : ℕ). c .args .depth ≤ z) e (c .pre .shallow)))
+    (rowOf (c .args .row)) (c .pre .fits) (omega arith) (omega arith) (c .args .depth) (c .pre .above) (subst (λ (z : ℕ). c .args .depth ≤ z + 1) e (c .pre .shallow)))
