@@ -7,3 +7,4 @@ pub mod Facts
 pub mod Joins
 pub mod Deeps
 pub mod Equated
+pub mod Unique

@@ -6,3 +6,4 @@ pub mod Joining
 pub mod Labels
 pub mod Sheets
 pub mod Stored
+pub mod Verdicts

@@ -8,6 +8,7 @@ mod numbers;
 mod row;
 mod rows;
 mod table;
+mod verdicts;
 
 pub use equations::Equation;
 pub use fault::JoinFault;
@@ -16,3 +17,4 @@ pub use fault::Unequal;
 pub use numbers::Numbers;
 pub use row::Row;
 pub use table::Table;
+pub use verdicts::calls_are_settled;
