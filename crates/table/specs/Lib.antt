@@ -1,0 +1,9 @@
+pub mod Calls
+pub mod Deepening
+pub mod Equating
+pub mod Joined
+pub mod Joining
+pub mod Labels
+pub mod Sheets
+pub mod Stored
+pub mod Verdicts
