@@ -1,12 +1,9 @@
 -- A book of marks and a book of lines keep the laws of a vocabulary.
-use mathlib.Core.Path.{_≡_}
-use Prim.Native.Nat.{ℕ, _≤_}
 use native.Mathlib.Omega.{arith}
 use Rattle.book.specs.Laws.{Lawful}
 use Rattle.book.specs.Likeness.{wordsOf}
 use Rattle.book.specs.declared.lines_book.LinesBook.{LinesBook}
 use Rattle.book.specs.declared.marks_book.MarksBook.{MarksBook}
-use Rattle.layout.specs.Places.{countOf}
 use Rattle.layout.specs.declared.layout.Layout.{Layout}
 use Rattle.scale.proofs.Degrees.{lines-set, mark-set}
 use Rattle.scale.proofs.Laws.{line-laws, mark-laws}

@@ -1,6 +1,6 @@
 -- A lawful table has no fault, and an unlawful one has one.
 use mathlib.Core.List.{List}
-use mathlib.Core.Logic.{_⊎_, inl, inr}
+use mathlib.Core.Logic.{inl, inr}
 use mathlib.Core.Path.{_≡_, refl}
 use Prim.Native.Nat.{ℕ}
 use Rattle.book.specs.Laws.{Coded, Lawful, Reflexive, Symmetric, Transitive, Typed, Unlawful}

@@ -1,10 +1,9 @@
 -- For each list of bytes at most one verdict fits.
 use mathlib.Core.List.{List}
-use mathlib.Core.Logic.{_⊎_, inl, inr}
-use mathlib.Core.Path.{_≡_, refl, ap, sym, _∙_}
+use mathlib.Core.Logic.{inl, inr}
+use mathlib.Core.Path.{_≡_, refl, ap}
 use Prim.Native.Nat.{ℕ}
 use native.Mathlib.Omega.{arith}
-use Rattle.book.specs.Laws.{Lawful, Unlawful}
 use Rattle.book.specs.Verdicts.{IsLinesBook, IsMarksBook, Verdict}
 use Rattle.book.specs.declared.checks.Kind.{Kind}
 use Rattle.book.specs.declared.checks.Kind.the-variants.{Marks, Lines}
@@ -12,8 +11,6 @@ use Rattle.book.specs.declared.fault.BookFault.{BookFault}
 use Rattle.book.specs.declared.fault.BookFault.the-variants.{Form, Law}
 use Rattle.book.specs.declared.fault.LawFault.{LawFault}
 use Rattle.layout.proofs.FormFaults.{bad-form-once, good-form-none}
-use Rattle.layout.specs.Forms.{BadForm, GoodForm}
-use Rattle.layout.specs.Places.{kindOf}
 use Rattle.scale.specs.Degrees.{lineOperations, markOperations}
 use Rattle.std.specs.declared.result.Result.{Result}
 use Rattle.std.specs.declared.result.Result.the-variants.{Ok, Err}

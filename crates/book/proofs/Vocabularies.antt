@@ -1,9 +1,9 @@
 -- The words of a lawful book keep the laws of a vocabulary: over every number, since one that is no word is alike to nothing.
-use mathlib.Core.Bool.{Bool, false, _&&_}
+use mathlib.Core.Bool.{_&&_}
 use mathlib.Core.List.{List}
 use mathlib.Core.Logic.{⊎-elim, ∥∥₁-elim}
-use mathlib.Core.Path.{_≡_, refl, ap, sym, _∙_}
-use Prim.Native.Nat.{ℕ, _≤_, _<_}
+use mathlib.Core.Path.{_≡_, ap, sym, _∙_}
+use Prim.Native.Nat.{ℕ, _≤_}
 use native.Mathlib.Bridge.{le-prop}
 use lib.Dec.{ltb}
 use Rattle.book.specs.Laws.{Lawful, Transitive}

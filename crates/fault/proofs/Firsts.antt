@@ -1,7 +1,7 @@
 -- A first violation is the only one, and there is none where nothing is violated.
-use mathlib.Core.Logic.{_⊎_, inl, inr}
-use mathlib.Core.Path.{_≡_, refl, sym, subst}
-use Prim.Native.Nat.{ℕ, _<_}
+use mathlib.Core.Logic.{inl, inr}
+use mathlib.Core.Path.{_≡_, sym, subst}
+use Prim.Native.Nat.{ℕ}
 use Rattle.std.proofs.shelf.Tests.{cases-order}
 use Rattle.fault.specs.Firsts.{Below, All2, All3, First1, First2, First3}
 

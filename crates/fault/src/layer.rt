@@ -1,4 +1,3 @@
-ghost use Prim.Native.Nat.{ℕ};
 ghost use Rattle.fault.specs.Layers.{layerNumber};
 ghost use mathlib.Core.Path.{_≡_};
 

@@ -1,6 +1,6 @@
 -- A floor keeps the laws of a vocabulary.
 use mathlib.Core.Logic.{_⊎_, inl, inr, ⊎-elim}
-use mathlib.Core.Path.{_≡_, refl, sym, ap, subst, _∙_}
+use mathlib.Core.Path.{_≡_, sym, ap, subst, _∙_}
 use Prim.Native.Nat.{ℕ}
 use Rattle.scale.proofs.Orders.{le-trans, le-top, bottom-le, meet-glb, meet-bottom}
 use Rattle.scale.specs.Scales.{Operations, IsScale, AtMost}

@@ -1,17 +1,15 @@
 -- A dialect keeps the laws of a vocabulary.
-use mathlib.Core.Bool.{cond}
-use mathlib.Core.Logic.{_⊎_, inl, inr}
-use mathlib.Core.Path.{_≡_, refl, sym, ap, subst, _∙_}
+use mathlib.Core.Logic.{inl, inr}
+use mathlib.Core.Path.{_≡_, sym, ap, subst, _∙_}
 use Prim.Native.Nat.{ℕ, _<_, _≤_}
 use native.Mathlib.Omega.{arith}
-use lib.Dec.{ltb}
 use Rattle.std.proofs.shelf.Tests.{cases-lt, lt-ltb, le-ltb, cond-true, cond-false}
 use Rattle.std.specs.declared.option.Option.{Option}
 use Rattle.std.specs.declared.option.Option.the-variants.{None, Some}
 use Rattle.lists.specs.Counts.{Counted}
 use Rattle.scale.specs.Scales.{Operations, IsScale, AtMost}
 use Rattle.vocabulary.specs.Words.{Words, IsVocabulary, known}
-use Rattle.scale.proofs.Orders.{bottom-le, meet-bottom}
+use Rattle.scale.proofs.Orders.{meet-bottom}
 use Rattle.layers.specs.Dialects.{Entries, wordBelow, spoken}
 use Rattle.layers.specs.Tables.{tabled}
 use Rattle.layers.specs.declared.table.Table.{Table}

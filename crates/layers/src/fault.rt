@@ -1,7 +1,6 @@
 use fault::Cause;
 use fault::Fault;
 ghost use Rattle.layers.specs.Verdicts.{dialectRefusal};
-ghost use mathlib.Core.Path.{_≡_};
 
 /// Why a list of entries is no dialect.
 #[derive(Clone, Copy, PartialEq, Eq, Debug)]

@@ -1,9 +1,9 @@
 -- The words of a book of the right form are a lexicon.
-use mathlib.Core.Bool.{Bool, Bool-set}
+use mathlib.Core.Bool.{Bool-set}
 use mathlib.Core.List.{List}
-use mathlib.Core.Logic.{_⊎_, inl, inr, ∥∥₁-elim}
-use mathlib.Core.Path.{_≡_, ap, sym, subst, _∙_}
-use Prim.Native.Nat.{ℕ, _+_, _≤_, _<_}
+use mathlib.Core.Logic.{inl, inr, ∥∥₁-elim}
+use mathlib.Core.Path.{_≡_, sym, subst, _∙_}
+use Prim.Native.Nat.{ℕ, _+_, _<_}
 use native.Mathlib.Bridge.{le-prop}
 use native.Mathlib.Nat.{ℕ-set}
 use native.Mathlib.Omega.{arith}

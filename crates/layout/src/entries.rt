@@ -3,7 +3,7 @@ use vocabulary::LONGEST_SPELLING;
 use vocabulary::MOST_ARGUMENTS;
 use vocabulary::same_spelling;
 use vocabulary::spells;
-ghost use Prim.Native.Nat.{ℕ, _+_, _<_, _≤_};
+ghost use Prim.Native.Nat.{_+_, _<_, _≤_};
 ghost use Rattle.fault.specs.Firsts.{Below};
 ghost use Rattle.layout.specs.Entries.{BadEntry, Differs, FirstSpelled, GoodEntry, Present};
 ghost use Rattle.layout.specs.Places.{entryEnd, entryStart, spellingIn};

@@ -1,6 +1,6 @@
 -- Marks and sets of lines keep the laws of a scale.
 use mathlib.Core.Path.{_≡_, ap, _∙_}
-use Prim.Native.Nat.{ℕ, zero, suc, _≤_, _<_, _/_, _%_, _^_, min}
+use Prim.Native.Nat.{ℕ, zero, suc, _<_, _/_, _%_, _^_, min}
 use native.Mathlib.Nat.{min-comm, min-eq-left, min-eq-right, zero-min, mod-eq-of-lt, pow-suc}
 use native.Mathlib.Omega.{arith}
 use lib.Bits.{bitAnd, and-comm, and-self, and-zero-l, and-step, and-mask}

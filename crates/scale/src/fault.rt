@@ -2,7 +2,6 @@ use fault::Cause;
 use fault::Fault;
 use fault::Layer;
 ghost use Rattle.scale.specs.Faults.{degreeRefusal};
-ghost use mathlib.Core.Path.{_≡_};
 
 /// Why a number offered as a degree was refused.
 #[derive(Clone, Copy, PartialEq, Eq, Debug)]

@@ -12,15 +12,15 @@ use Rattle.std.proofs.shelf.Lists.{getD-set-other, getD-set-same}
 use Rattle.std.proofs.shelf.Tests.{cases-eq, cond-true, cond-false, eq-eqb, ne-eqb}
 use Rattle.table.proofs.Growing.{same-class}
 use Rattle.table.proofs.Joins.{composed-with}
-use Rattle.table.specs.Deepening.{Heights, Ready, Settled, Still, Stuck, missing}
+use Rattle.table.specs.Deepening.{Heights, Ready, Settled, Stuck, missing}
 use Rattle.table.specs.Joining.{Uniform}
 use Rattle.table.specs.Stored.{Lower, argsAt, argsOf, at, depthAt}
 use Rattle.unification.proofs.Depths.{closure-rows, endless-cycle}
 use Rattle.unification.proofs.Reading.{at-within}
 use Rattle.unification.proofs.Searches.{search-below}
 use Rattle.unification.proofs.Solving.{args-within}
-use Rattle.unification.specs.Closures.{Closure, same, turned, joined, passed, Above, Cycle, IsDepth, kind}
-use Rattle.unification.specs.Sheets.{Row, Sheet, At, IsCoherent, composed}
+use Rattle.unification.specs.Closures.{same, passed, Above, Cycle, IsDepth, kind}
+use Rattle.unification.specs.Sheets.{Row, Sheet, IsCoherent, composed}
 use Rattle.unification.specs.Tables.{Represents}
 
 -- One where there is no depth, else none.

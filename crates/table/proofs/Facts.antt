@@ -1,7 +1,7 @@
 -- What a table keeps of its sheet, together, and for a sheet with one more row.
 use mathlib.Core.List.{List}
 use mathlib.Core.Option.{some}
-use mathlib.Core.Path.{_≡_, refl, sym, subst}
+use mathlib.Core.Path.{_≡_, sym, subst}
 use Prim.Native.Nat.{ℕ, _+_, _<_, _≤_}
 use lib.ListN.{getD, length, set}
 use Rattle.fault.specs.Firsts.{Below}

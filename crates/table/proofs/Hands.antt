@@ -1,7 +1,6 @@
 -- What merely holds of a sheet and its representatives, and is at hand all the same.
 use mathlib.Core.HLevel.{×-prop}
 use mathlib.Core.Logic.{∥∥₁-elim, ∥∥₁-map}
-use mathlib.Core.Path.{_≡_}
 use Prim.Native.Nat.{ℕ}
 use native.Mathlib.Bridge.{le-prop}
 use native.Mathlib.Nat.{ℕ-set}

@@ -1,12 +1,12 @@
 -- Joining classes, one renaming at a time, until they are closed.
 use mathlib.Core.Bool.{cond}
-use mathlib.Core.List.{List, [], _∷_, map, List·Memᴰ·append-cases, List·Memᴰ·eq-of-singleton, List·Memᴰ·head, Memᴰ·append-right}
+use mathlib.Core.List.{List, map, List·Memᴰ·append-cases, List·Memᴰ·eq-of-singleton, List·Memᴰ·head, Memᴰ·append-right}
 use mathlib.Core.Logic.{_⊎_, inl, inr, ∥∥₁-elim, ∥∥₁-map}
 use mathlib.Core.Option.{Option, none, some}
 use mathlib.Core.Path.{_≡_, refl, _∙_, ap, sym, subst}
-use Prim.Native.Nat.{ℕ, zero, suc, _<_, _≤_, _+_, _*_}
+use Prim.Native.Nat.{ℕ, zero, suc, _<_, _≤_}
 use native.Mathlib.Omega.{arith}
-use lib.Dec.{eqb, leb}
+use lib.Dec.{eqb}
 use lib.ListN.{length, getD, getElem?}
 use Rattle.fault.specs.Firsts.{Below}
 use Rattle.std.proofs.shelf.Lists.{getD-map, length-map}
@@ -23,7 +23,7 @@ use Rattle.unification.proofs.Orderings.{closure-equated}
 use Rattle.unification.proofs.Reading.{at-within}
 use Rattle.unification.proofs.Tables.{star-closed}
 use Rattle.unification.specs.Closures.{Closure, stated, same, turned, joined, passed, kind}
-use Rattle.unification.specs.Sheets.{Row, variable, composed, Equation, Sheet, At, Holds, IsCoherent, equated}
+use Rattle.unification.specs.Sheets.{Row, variable, composed, Equation, Sheet, IsCoherent, equated}
 use Rattle.unification.specs.Tables.{IsStar, Represents}
 
 -- What stands at p after a renaming

@@ -3,18 +3,17 @@ use mathlib.Core.List.{List, [], _∷_, _++_, map}
 use mathlib.Core.Logic.{_⊎_, inl, inr}
 use mathlib.Core.Option.{Option, none, some}
 use mathlib.Core.Path.{_≡_, refl, sym, ap, _∙_, subst}
-use Prim.Native.Nat.{ℕ, zero, suc, _+_, _*_, _<_, _≤_}
+use Prim.Native.Nat.{ℕ, zero, suc, _+_, _<_, _≤_}
 use native.Mathlib.Omega.{arith}
 use lib.ListN.{getD, getElem?, length, set, take}
 use Rattle.std.proofs.shelf.Lists.{getD-map, getD-set-other, getD-set-same, getD-take, length-map, length-take-le, map-push, take-more-set}
 use Rattle.std.proofs.shelf.Tests.{cases-eq}
-use Rattle.table.specs.Stored.{InSlots, Lower, Slots, argsAt, argsOf, countOf, equationOf, equationsOf, rank, rowOf, rowsOf, slotsOf}
+use Rattle.table.specs.Stored.{InSlots, Lower, Slots, argsAt, argsOf, countOf, equationOf, equationsOf, rowOf, rowsOf, slotsOf}
 use Rattle.table.specs.declared.equations.Equation.{Equation}
 use Rattle.table.specs.declared.row.Row.{Row}
 use Rattle.table.specs.declared.row.Row.the-variants.{Variable, Composed}
 use Rattle.table.specs.declared.rows.Rows.{Rows}
 use Rattle.unification.proofs.Reading.{at-getD}
-use Rattle.unification.specs.Closures.{kind}
 use Rattle.unification.specs.Sheets as theory
 
 pub rows-length : (items : List Row) (n : ℕ) → n ≤ length items → length (rowsOf items n) ≡ n

@@ -1,6 +1,5 @@
 use mathlib.Core.List.{List, [], map}
 use mathlib.Core.Option.{Option, none, some}
-use mathlib.Core.Path.{_≡_}
 use Prim.Native.Nat.{ℕ, _+_, _*_, _<_, _≤_}
 use lib.ListN.{getD, getElem?, length, take}
 use Rattle.table.specs.declared.equations.Equation.{Equation}

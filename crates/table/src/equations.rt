@@ -1,4 +1,4 @@
-ghost use Prim.Native.Nat.{ℕ, _+_, _<_, _≤_};
+ghost use Prim.Native.Nat.{_+_, _<_, _≤_};
 ghost use Rattle.table.specs.Stored.{equationOf, equationsOf};
 ghost use lib.ListN.{length};
 ghost use mathlib.Core.List.{[], _++_, _∷_};

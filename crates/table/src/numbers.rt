@@ -1,4 +1,4 @@
-ghost use Prim.Native.Nat.{ℕ, _<_};
+ghost use Prim.Native.Nat.{_<_};
 ghost use Rattle.fault.specs.Firsts.{Below};
 ghost use Rattle.table.specs.Labels.{renamed};
 ghost use lib.ListN.{getD, length, set};

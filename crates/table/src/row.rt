@@ -1,4 +1,4 @@
-ghost use Prim.Native.Nat.{ℕ, _+_, _*_, _<_};
+ghost use Prim.Native.Nat.{_+_, _*_, _<_};
 ghost use Rattle.std.specs.Orderings.{Decides};
 ghost use Rattle.table.specs.Stored.{countOf, rowOf, slotsOf};
 ghost use Rattle.unification.specs.Closures.{kind};

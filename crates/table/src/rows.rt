@@ -1,5 +1,5 @@
 use crate::row::Row;
-ghost use Prim.Native.Nat.{ℕ, _+_, _<_, _≤_};
+ghost use Prim.Native.Nat.{_+_, _<_, _≤_};
 ghost use Rattle.fault.specs.Firsts.{Below};
 ghost use Rattle.std.specs.Orderings.{Decides};
 ghost use Rattle.table.specs.Stored.{InSlots, Lower, Slots, argsAt, argsOf, rank, rowOf, rowsOf};

@@ -8,7 +8,7 @@ use crate::joining::close;
 use crate::numbers::Numbers;
 use crate::row::Row;
 use crate::rows::Rows;
-ghost use Prim.Native.Nat.{ℕ, _+_, _<_, _≤_};
+ghost use Prim.Native.Nat.{_+_, _<_, _≤_};
 ghost use Rattle.fault.specs.Firsts.{Below, First1};
 ghost use Rattle.table.specs.Calls.{ComposeGives, KeptOnErr, Unlabelled, VariableGives};
 ghost use Rattle.table.specs.Equating.{Between, Deep, DeepenAnswers, JoinAnswers};

@@ -1,13 +1,12 @@
 -- A family tree keeps the laws of a vocabulary.
-use mathlib.Core.Logic.{_⊎_, inl, inr}
+use mathlib.Core.Logic.{inl, inr}
 use mathlib.Core.Path.{_≡_, refl, sym, ap, subst, _∙_}
 use Prim.Native.Nat.{ℕ, zero, suc, _<_, _≤_}
 use native.Mathlib.Omega.{arith}
 use Rattle.std.proofs.shelf.Tests.{cases-eq}
-use Rattle.fault.specs.Firsts.{Below}
 use Rattle.scale.specs.Scales.{Operations, IsScale, AtMost}
 use Rattle.vocabulary.specs.Words.{IsVocabulary}
-use Rattle.scale.proofs.Orders.{le-refl, le-trans, le-top, bottom-le, meet-left, meet-right, meet-glb, meet-mono, meet-bottom}
+use Rattle.scale.proofs.Orders.{le-refl, le-trans, le-top, meet-left, meet-right, meet-glb, meet-mono, meet-bottom}
 use Rattle.tree.specs.Families.{Family, IsFamily}
 use Rattle.tree.specs.Paths.{degree, likeBelow, treeWords}
 use Rattle.tree.proofs.Growth.{newest-self, newest-left, newest-right, earlier, none-below, by-newest, like-symmetric, like-self, like-outside}

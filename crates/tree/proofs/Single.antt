@@ -5,7 +5,7 @@ use Prim.Native.Nat.{ℕ}
 use lib.ListN.{length}
 use Rattle.std.specs.declared.result.Result.{Result}
 use Rattle.std.specs.declared.result.Result.the-variants.{Ok, Err}
-use Rattle.fault.specs.Firsts.{Below, First1}
+use Rattle.fault.specs.Firsts.{Below}
 use Rattle.fault.proofs.Firsts.{first1-only, first1-none}
 use Rattle.lists.specs.Counts.{Counted}
 use Rattle.scale.specs.Scales.{Operations}

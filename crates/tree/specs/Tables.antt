@@ -1,4 +1,3 @@
-use Prim.Native.Nat.{ℕ}
 use lib.ListN.{getD}
 use Rattle.tree.specs.Families.{Family}
 use Rattle.tree.specs.declared.table.Table.{Table}

@@ -1,7 +1,6 @@
 use fault::Cause;
 use fault::Fault;
 ghost use Rattle.tree.specs.Verdicts.{treeRefusal};
-ghost use mathlib.Core.Path.{_≡_};
 
 /// What is wrong with a word of a family tree.
 #[derive(Clone, Copy, PartialEq, Eq, Debug)]

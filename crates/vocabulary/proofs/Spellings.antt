@@ -1,6 +1,6 @@
 -- That two spellings are the same goes both ways and passes on.
 use mathlib.Core.List.{List}
-use mathlib.Core.Path.{_≡_, sym, _∙_}
+use mathlib.Core.Path.{sym, _∙_}
 use Prim.Native.Nat.{ℕ}
 use Rattle.vocabulary.specs.Spellings.{SameSpelling}
 

@@ -1,7 +1,6 @@
 ghost use Prim.Native.Nat.{ℕ};
 ghost use Rattle.std.specs.Options.{Cases as BySome, mapped};
 ghost use Rattle.std.specs.declared.option.Option.{Option};
-ghost use Rattle.std.specs.declared.option.Option.the-variants.{Some};
 ghost use Rattle.vocabulary.specs.Spellings.{IsLexicon, Spells};
 ghost use mathlib.Core.List.{List};
 ghost use mathlib.Core.Path.{_≡_};

@@ -1,5 +1,4 @@
 use scale::Scale;
-ghost use Prim.Native.Nat.{ℕ};
 ghost use Rattle.vocabulary.specs.Words.{IsVocabulary, Words, known};
 ghost use mathlib.Core.Path.{_≡_};
 

@@ -1,5 +1,5 @@
 use mathlib.Core.List.{[]}
-use mathlib.Core.Path.{_≡_, ap, sym, _∙_}
+use mathlib.Core.Path.{_∙_}
 use native.Mathlib.Omega.{arith}
 use Rattle.account.proofs.Listings.{listing-all, listing-more, listing-none}
 use Rattle.account.proofs.words.account.Needs as need

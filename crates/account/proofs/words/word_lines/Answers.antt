@@ -1,6 +1,5 @@
-use mathlib.Core.Path.{_≡_, ap, sym, _∙_}
+use mathlib.Core.Path.{_∙_}
 use native.Mathlib.Omega.{arith}
-use Rattle.account.specs.Words.{headText, likeText}
 use Rattle.account.proofs.Listings.{listing-all, listing-more, listing-none}
 use Rattle.account.proofs.words.word_lines.Needs as need
 

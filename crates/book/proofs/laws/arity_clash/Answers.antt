@@ -1,4 +1,4 @@
-use mathlib.Core.Path.{_≡_, sym, _∙_}
+use mathlib.Core.Path.{sym, _∙_}
 use borrow.Author.Count.{below-more}
 use Rattle.book.proofs.Arities.{arity-read}
 use Rattle.std.proofs.shelf.Tests.{false≢true}

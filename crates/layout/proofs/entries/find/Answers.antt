@@ -1,5 +1,5 @@
 use mathlib.Core.List.{List}
-use mathlib.Core.Path.{_≡_, ap, sym, subst, _∙_}
+use mathlib.Core.Path.{ap, sym, subst, _∙_}
 use Prim.Native.Nat.{ℕ, _+_}
 use borrow.Author.Count.{below-more}
 use Rattle.std.proofs.shelf.Tests.{false≢true}

@@ -1,4 +1,4 @@
-use mathlib.Core.Path.{_≡_, ap, sym, subst}
+use mathlib.Core.Path.{ap, subst}
 use Prim.Native.Nat.{ℕ}
 use Rattle.std.proofs.shelf.Results.{err-from-errBy}
 use Rattle.std.specs.declared.result.Result.the-variants.{Err}

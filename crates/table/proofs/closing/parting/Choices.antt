@@ -1,4 +1,3 @@
-use Prim.Native.Nat.{ℕ, _<_}
 use lib.ListN.{getD}
 use mathlib.Core.Path.{_≡_}
 use Rattle.fault.specs.Firsts.{Below}

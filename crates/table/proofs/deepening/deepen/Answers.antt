@@ -1,9 +1,9 @@
-use Prim.Native.Nat.{ℕ, _+_, _<_, _≤_}
+use Prim.Native.Nat.{ℕ, _+_, _≤_}
 use lib.ListN.{length, set}
 use mathlib.Core.List.{List}
-use mathlib.Core.Path.{_≡_, refl, subst, sym}
+use mathlib.Core.Path.{refl, subst}
 use native.Mathlib.Omega.{arith}
-use Rattle.table.proofs.Deeps.{heights-more, heights-moved, heights-none, missing-falls, settled-all}
+use Rattle.table.proofs.Deeps.{heights-more, heights-moved, heights-none, missing-falls}
 use Rattle.table.proofs.deepening.deepen.Needs as need
 use Rattle.table.specs.Deepening.{missing}
 use Rattle.table.specs.Stored.{rowsOf}

@@ -1,4 +1,4 @@
-use Prim.Native.Nat.{ℕ, _<_}
+use Prim.Native.Nat.{_<_}
 use Rattle.fault.specs.Firsts.{Below}
 use Rattle.table.proofs.deepening.find_missing.Given as given
 use Rattle.table.specs.Stored.{at}

@@ -1,4 +1,4 @@
-use Prim.Native.Nat.{ℕ, _≤_}
+use Prim.Native.Nat.{_≤_}
 use Rattle.table.proofs.deepening.sweep.Given as given
 use Rattle.table.specs.Deepening.{Heights, missing}
 use Rattle.table.specs.Stored.{rowsOf}

@@ -1,7 +1,7 @@
 use mathlib.Core.List.{[], _∷_, _++_}
 use mathlib.Core.Path.{_≡_, _∙_, sym, ap}
 use native.Mathlib.Omega.{arith}
-use Prim.Native.Nat.{ℕ, _<_}
+use Prim.Native.Nat.{ℕ}
 use lib.ListN.{getD, length, length-set, take}
 use Rattle.std.proofs.shelf.Lists.{take-all, take-more, take-more-set}
 use Rattle.table.proofs.table.slots.Needs as need

@@ -1,4 +1,3 @@
-use Prim.Native.Nat.{_<_}
 use native.Mathlib.Omega.{arith}
 use Rattle.layout.proofs.Tables.{cell-is, cell-within}
 use Rattle.layout.proofs.layout.Layout.code.Needs as need

@@ -5,7 +5,7 @@ use mathlib.Core.Path.{_≡_, _∙_, ap, sym, subst}
 use native.Mathlib.Omega.{arith}
 use Rattle.table.proofs.Places.{args-at, args-length, args-slot}
 use Rattle.table.proofs.rows.Rows.argument.Needs as need
-use Rattle.table.specs.Stored.{argsAt, argsOf, countOf, rowOf, rowsOf, slotsOf}
+use Rattle.table.specs.Stored.{argsAt, countOf, rowsOf, slotsOf}
 use Rattle.table.specs.declared.row.Row.the-variants.{Variable}
 use Rattle.table.specs.declared.rows.Rows.{Rows}
 

@@ -1,7 +1,7 @@
 use mathlib.Core.List.{List}
 use mathlib.Core.Path.{_≡_, _∙_, ap, sym, subst}
 use native.Mathlib.Omega.{arith}
-use Prim.Native.Nat.{ℕ, _+_, _<_, _≤_}
+use Prim.Native.Nat.{ℕ, _+_, _≤_}
 use lib.ListN.{length, set}
 use Rattle.table.proofs.Facts.{Facts, facts-grown, facts-moved}
 use Rattle.table.proofs.table.Table.push.Needs as need

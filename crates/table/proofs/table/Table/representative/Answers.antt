@@ -1,7 +1,6 @@
 use Prim.Native.Nat.{ℕ, _<_}
 use lib.ListN.{length}
-use mathlib.Core.Path.{_≡_, subst, sym}
-use native.Mathlib.Omega.{arith}
+use mathlib.Core.Path.{subst, sym}
 use Rattle.table.proofs.Hands.{coherent-at-hand, represents-at-hand}
 use Rattle.table.proofs.table.Table.representative.Needs as need
 use Rattle.table.specs.Sheets.{sheetOf}

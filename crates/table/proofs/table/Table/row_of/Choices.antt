@@ -1,4 +1,3 @@
-use Prim.Native.Nat.{ℕ, _<_}
 use Rattle.fault.specs.Firsts.{Below}
 use Rattle.table.proofs.table.Table.row_of.Given as given
 use Rattle.table.specs.Sheets.{sheetOf}

@@ -5,7 +5,6 @@ use Rattle.tree.specs.Paths.{likeBelow}
 use Rattle.tree.specs.Tables.{tabled}
 use Rattle.tree.proofs.Climbs.{likeness-exact}
 use Rattle.tree.proofs.Held.{table-family}
-use Rattle.tree.proofs.Laws.{tree-laws}
 use Rattle.tree.proofs.tree.TreeVocabulary.likeness.Needs as need
 
 pub returns-then-f-count : need.returns-then-f-count
