@@ -1,4 +1,6 @@
 // What a reader is told of words: their names, their degrees, which are alike. It knows no format, and prints nothing.
+#![tactic(auto)]
+
 mod degrees;
 mod names;
 mod words;

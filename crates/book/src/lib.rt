@@ -1,4 +1,6 @@
 // Books of likenesses: their laws, their check, and the books that passed it. It knows nothing of terms.
+#![tactic(auto)]
+
 mod checks;
 mod degrees;
 mod causes;

@@ -2,6 +2,8 @@
 //
 // A line is a name and items, parted by one blank: `bN` is the byte N, `wN` the number N in two bytes, `"grid"` the bytes
 // of a text; `*K` behind an item repeats it K times. The answer is the name and the verdict.
+#![tactic(auto)]
+
 use anyhow::anyhow;
 use book::{Kind, check};
 use fault::Cause;

@@ -1,4 +1,6 @@
 // Reads a book, checks it, and prints what is to be told of it. All that it says is worked out in `report`.
+#![tactic(auto)]
+
 use anyhow::anyhow;
 use report::{Report, report_above, report_on, report_text};
 use std::alloc::{AllocError, Global};

@@ -1,4 +1,6 @@
 // What a refusal says: a layer, a number and a place. It knows no layer's own causes.
+#![tactic(auto)]
+
 mod fault;
 mod layer;
 

@@ -1,4 +1,6 @@
 // Worked cases of family trees, floors and dialects. Each expected value is worked out by hand from the rules.
+#![tactic(auto)]
+
 #[cfg(test)]
 mod dialects;
 #[cfg(test)]

@@ -1,4 +1,6 @@
 // Layers over any vocabulary: a floor under the likenesses, and a dialect of other words. It knows no vocabulary of its own.
+#![tactic(auto)]
+
 mod dialect;
 mod causes;
 mod floor;

@@ -1,4 +1,6 @@
 // How a book lies in its bytes: the header, the entries of the words, the table. It knows nothing of degrees.
+#![tactic(auto)]
+
 mod entries;
 mod causes;
 mod form;

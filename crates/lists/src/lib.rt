@@ -1,4 +1,6 @@
 // Lists of 1 to 128 entries, one for each word, in fixed memory. It knows nothing of what the entries mean.
+#![tactic(auto)]
+
 mod count;
 mod fixed;
 

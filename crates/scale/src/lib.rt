@@ -1,4 +1,6 @@
 // Degrees of likeness: what a scale is, and the two scales of the depot. It knows nothing of words.
+#![tactic(auto)]
+
 mod coded;
 mod causes;
 mod lines;

@@ -1,4 +1,6 @@
 // A dialect over a floor over a family tree, over a book, over any vocabulary: the layers together. It adds no rule of its own.
+#![tactic(auto)]
+
 mod any;
 mod causes;
 mod lines;

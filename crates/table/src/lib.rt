@@ -1,4 +1,6 @@
 // The plain table of a sheet: its rows and equations, and for each row the number of its class. It knows no words and no degrees.
+#![tactic(auto)]
+
 mod closing;
 mod deepening;
 mod equations;

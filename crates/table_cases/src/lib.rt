@@ -1,4 +1,6 @@
 // Cases of a table, each with the answer worked out by hand.
+#![tactic(auto)]
+
 use table::{Equation, JoinFault, RowFault, Table};
 
 /// What equating two rows came to.

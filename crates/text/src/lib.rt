@@ -1,4 +1,6 @@
 // Whether bytes are the text of a term, and where they fail to be. It knows no sheet and no likeness.
+#![tactic(auto)]
+
 mod brackets;
 mod check;
 mod demand;

@@ -1,4 +1,6 @@
 // Family trees, over any scale: words alike through their common ancestors. It knows no text and no format.
+#![tactic(auto)]
+
 mod checks;
 mod causes;
 mod table;

@@ -1,4 +1,6 @@
 // Terms, sheets of equations and what a best match is: definitions, and the theorems about them. It knows no code that solves a sheet.
+#![tactic(auto)]
+
 mod eight_words;
 mod theorems;
 

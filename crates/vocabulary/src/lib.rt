@@ -1,4 +1,6 @@
 // What the matcher asks of words: how many arguments, how much alike, how spelled. It knows no format.
+#![tactic(auto)]
+
 mod arity_list;
 mod lexicon;
 mod limits;
