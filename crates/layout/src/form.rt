@@ -2,8 +2,8 @@ ghost use Rattle.layout.specs.Forms.{BadForm, GoodForm, Headed};
 ghost use Rattle.layout.specs.declared.causes.FormFault.{FormFault};
 ghost use Rattle.std.specs.Prelude.{◌≡◌, MatchResult};
 
-use crate::entries::entries;
 use crate::causes::FormFault;
+use crate::entries::entries;
 use vocabulary::MOST_WORDS;
 
 /// The version of a book that is known.

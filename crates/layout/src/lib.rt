@@ -1,12 +1,12 @@
 // How a book lies in its bytes: the header, the entries of the words, the table. It knows nothing of degrees.
 #![tactic(auto)]
 
-mod entries;
 mod causes;
+mod entries;
 mod form;
 mod layout;
 
-pub use entries::spelling_in;
 pub use causes::{EntryFault, FormFault};
+pub use entries::spelling_in;
 pub use form::check_form;
 pub use layout::Layout;

@@ -1,8 +1,8 @@
 // Degrees of likeness: what a scale is, and the two scales of the depot. It knows nothing of words.
 #![tactic(auto)]
 
-mod coded;
 mod causes;
+mod coded;
 mod lines;
 mod lines_scale;
 mod mark;

@@ -39,7 +39,7 @@ represents_from I C h k l p hp =
 pub depth_from : {s : Sheet} {depth : ℕ → ℕ} → ((p q : ℕ) → Closure s p q → depth p ≡ depth q) → ((p f : ℕ) (xs : List ℕ) → At s p (composed f xs) → Below (length xs) (λ i. depth (get_or xs i 0) < depth p)) → IsDepth s depth
 depth_from {s} {depth} h k p q a =
     let x = h p a.row a.together in
-    let y = k a.row a.word a.args a.is a.place a.in-args in
+    let y = k a.row a.word a.args a.is a.place a.in_args in
     let z = h (get_or a.args a.place 0) q a.below in
     omega arith
 

@@ -33,7 +33,7 @@ module _ {D : Type 0} {S : Operations D} (L : IsScale S) {V : Words D} (W : IsVo
       go (inr h) (inl e) = inl e
       go (inr h) (inr k) =
           let shaped = ap height (apply_composed I.coherent θ a.row a.word a.args a.is) in
-          let inner = height_place (λ r. apply θ (term s r)) a.args a.place a.in-args in
+          let inner = height_place (λ r. apply θ (term s r)) a.args a.place a.in_args in
           inr (omega arith)
 
   descent_lower : {p q : ℕ} → Descent s p q → (suits S V s θ ≡ S.bottom) ⊎ (high q < high p)

@@ -38,7 +38,7 @@ module _ {s : Sheet} (I : IsCoherent s) where
   above_rows : {p q : ℕ} → Above s p q → (p < length s.rows) × (q < length s.rows)
   above_rows a = (
     (closure_rows a.together).1 (at_within s.rows a.row (composed a.word a.args) a.is),
-    (closure_rows a.below).0 (args_within I a.row a.word a.args a.is a.place a.in-args),
+    (closure_rows a.below).0 (args_within I a.row a.word a.args a.is a.place a.in_args),
   )
 
   -- Whether row p is above q, through an argument of row r, or of any row.

@@ -46,7 +46,7 @@ module _ {s t : Sheet} (a : (p : ℕ) (r : Row) → At s p r → At t p r) (g : 
         place = b.place;
         together = closure_grows a g b.together;
         is = a b.row (composed b.word b.args) b.is;
-        in_args = b.in-args;
+        in_args = b.in_args;
         below = closure_grows a g b.below;
       }
 

@@ -7,8 +7,8 @@ loop-f-init g c = c.new-text.ensures.bytes ∙ listing_none _ []
 
 pub loop-f-preserved : goal.loop-f-preserved
 loop-f-preserved g c =
-    c.in-ok-push-str.ensures.bytes ∙
-    listing_more _ [] c.loop-f.f _ _ c.loop-f.invariant (c.as-str.ensures.value ∙ c.in-ok-more.ensures)
+    c.in_ok-push_str.ensures.bytes ∙
+    listing_more _ [] c.loop-f.f _ _ c.loop-f.invariant (c.as_str.ensures.value ∙ c.in_ok-more.ensures)
 
 pub returns : goal.returns
 returns g c =

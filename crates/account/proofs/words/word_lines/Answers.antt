@@ -3,12 +3,12 @@ use Rattle.account.proofs.Listings.{listing_all, listing_more, listing_none}
 use Rattle.account.proofs.words.word_lines.Goals as goal
 
 pub loop-g-init : goal.loop-g-init
-loop-g-init g c = c.in-ok-text.ensures ∙ listing_none _ _
+loop-g-init g c = c.in_ok-text.ensures ∙ listing_none _ _
 
 pub loop-g-preserved : goal.loop-g-preserved
 loop-g-preserved g c =
-    c.in-ok-push-str.ensures.bytes ∙
-    listing_more _ _ c.loop-g.g _ _ c.loop-g.invariant (c.as-str.ensures.value ∙ c.in-ok-more.ensures)
+    c.in_ok-push_str.ensures.bytes ∙
+    listing_more _ _ c.loop-g.g _ _ c.loop-g.invariant (c.as_str.ensures.value ∙ c.in_ok-more.ensures)
 
 pub returns : goal.returns
 returns g c =

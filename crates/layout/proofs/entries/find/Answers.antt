@@ -13,5 +13,5 @@ loop-i-preserved c =
       ap (entry_end B) c.loop-i.invariant.0 ∙ sym (start_more _ _),
       below_more _ _ c.loop-i.invariant.1
           (λ e.
-          false≢true (sym c.if-same-spelling.false ∙ c.same-spelling.ensures.1 (subst (λ (s : List ℕ). SameSpelling s c.args.word.now) (sym here) e))),
+          false≢true (sym c.if-same_spelling.false ∙ c.same_spelling.ensures.1 (subst (λ (s : List ℕ). SameSpelling s c.args.word.now) (sym here) e))),
     )

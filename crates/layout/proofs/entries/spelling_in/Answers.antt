@@ -5,7 +5,7 @@ use Rattle.layout.proofs.entries.spelling_in.Goals as goal
 
 pub returns-then-at-bytes : goal.returns-then-at-bytes
 returns-then-at-bytes c =
-    cut_before c.args.bytes.now c.args.i c.loop-word.-word (omega arith) (omega (arith, c.loop-word.invariant.0, c.if-at-bytes.true))
+    cut_before c.args.bytes.now c.args.i c.loop-word._word (omega arith) (omega (arith, c.loop-word.invariant.0, c.if-at-bytes.true))
 
 pub loop-word-preserved : goal.loop-word-preserved
 loop-word-preserved c =

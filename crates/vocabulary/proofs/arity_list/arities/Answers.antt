@@ -12,5 +12,5 @@ loop-f-preserved g c =
     let room : c.loop-f.f < length c.loop-f.list = omega (arith, c.loop-f.invariant.0, c.count-f-end.ensures.laws.few) in (
       simp length-set c.loop-f.invariant.0,
       filled_more c.loop-f.list c.loop-f.f _ V.arity room c.loop-f.invariant.1
-          (c.unwrap-or.ensures ∙ known_value V.count V.arity c.loop-f.f _ word c.arity.ensures.value),
+          (c.unwrap_or.ensures ∙ known_value V.count V.arity c.loop-f.f _ word c.arity.ensures.value),
     )

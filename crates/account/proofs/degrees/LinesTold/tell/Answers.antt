@@ -4,13 +4,13 @@ use Rattle.account.proofs.Listings.{listing_all, listing_more, listing_none}
 use Rattle.account.proofs.degrees.LinesTold.tell.Goals as goal
 
 pub loop-line-init : goal.loop-line-init
-loop-line-init c = c.in-ok-text.ensures.ok ∙ listing_none (line_text c.code-set.result) (codes "lines")
+loop-line-init c = c.in_ok-text.ensures.ok ∙ listing_none (line_text c.code-set.result) (codes "lines")
 
 pub loop-line-preserved : goal.loop-line-preserved
 loop-line-preserved c =
-    c.in-ok-push-str.ensures.bytes ∙
+    c.in_ok-push_str.ensures.bytes ∙
     listing_more (line_text c.code-set.result) (codes "lines") c.loop-line.line _ _ c.loop-line.invariant
-    (c.as-str.ensures.value ∙ c.in-ok-more.ensures)
+    (c.as_str.ensures.value ∙ c.in_ok-more.ensures)
 
 pub returns : goal.returns
 returns c =

@@ -3,8 +3,8 @@ use Rattle.std.proofs.lemmas.Slice.{between_to_end}
 use Rattle.layout.specs.Places.{table_start}
 use Rattle.layout.proofs.layout.Layout.new.Goals as goal
 
-pub invariant-of-result : goal.invariant-of-result
-invariant-of-result c =
+pub invariant_of-result : goal.invariant_of-result
+invariant_of-result c =
     let B = c.args.bytes.now in
     let start = c.locate-start.ensures in
     let placed = between_to_end B c.locate-start.result (length B) (omega arith) ∙ ap (λ (s : ℕ). drop s B) start in (
