@@ -55,7 +55,7 @@ impl<V: Vocabulary> Dialect<V> {
     /// The word below that the word stands for; nothing for a number that is no word of the dialect.
     fn named(&self, word: u16) -> Option<u16>
         ensures value { result ≡ known self.now.table.count (word_below (V.Vocabulary.model self.now.below).count (tabled self.now.table)) word }
-        ensures laws { IsVocabulary Degree-as-Scale.operations (V.Vocabulary.model self.now.below) }
+        ensures laws { IsVocabulary V.Degree.Scale.operations (V.Vocabulary.model self.now.below) }
     {
         let count = self.below.count();
         if word as usize >= self.table.count as usize {

@@ -68,7 +68,7 @@ module _ {s : Sheet} (I : IsCoherent s) where
             yes (record { row = m.0; word = t.0; args = t.1; place = t.2; together = t.3; is = t.4; in_args = t.5; below = t.6 })
         | inr n ↦ no (λ a.
             n a.row (at_within s.rows a.row (composed a.word a.args) a.is)
-            (a.word, a.args, a.place, a.together, a.is, a.in-args, a.below))
+            (a.word, a.args, a.place, a.together, a.is, a.in_args, a.below))
       ]
 
   -- A walk of as many steps as there are rows comes to a row twice.
