@@ -12,8 +12,8 @@ use Rattle.unification.specs.Sheets.{Sheet}
 long : (rows : Rows) (k : Numbers) → rows.len ≤ length k.of
 long rows k = let a = rows.within in let b = k.size in omega arith
 
-pub find-apart-requires : goal.find-apart-requires
-find-apart-requires c = record { within = c.loop-x.invariant.0.within }
+pub find_apart-requires : goal.find_apart-requires
+find_apart-requires c = record { within = c.loop-x.invariant.0.within }
 
 pub merge-requires : goal.merge-requires
 merge-requires c =
@@ -55,21 +55,21 @@ loop-x-preserved c =
           (sides_merged s rows.len (coherent_at_hand c.requires.coherent) k c.in-Some.x c.in-Some.y (omega arith) c.loop-x.invariant.1),
     )
 
-pub find-unequal-requires : goal.find-unequal-requires
-find-unequal-requires c = record { within = c.loop-x.invariant.0.within; first = c.loop-x.invariant.0.first }
+pub find_unequal-requires : goal.find_unequal-requires
+find_unequal-requires c = record { within = c.loop-x.invariant.0.within; first = c.loop-x.invariant.0.first }
 
-pub overflow-cast-result-in-Some-find-unequal : goal.overflow-cast-result-in-Some-find-unequal
-overflow-cast-result-in-Some-find-unequal c =
-    let d = c.in-Some-find-unequal.ensures in
-    let w = c.loop-x.invariant.0.within c.in-Some-find-unequal.p d.row in
+pub overflow_cast-result-in-Some-find_unequal : goal.overflow_cast-result-in-Some-find_unequal
+overflow_cast-result-in-Some-find_unequal c =
+    let d = c.in-Some-find_unequal.ensures in
+    let w = c.loop-x.invariant.0.within c.in-Some-find_unequal.p d.row in
     let e = d.class in
     let m = c.args.rows.now.within in
     omega arith
 
-pub returns-in-Some-find-unequal : goal.returns-in-Some-find-unequal
-returns-in-Some-find-unequal c =
+pub returns-in-Some-find_unequal : goal.returns-in-Some-find_unequal
+returns-in-Some-find_unequal c =
     let rows = c.args.rows.now in
-    differ_unlike (sheet_of rows c.args.equations.now) rows.len (coherent_at_hand c.requires.coherent) c.loop-x.closed.of c.in-Some-find-unequal.p c.in-Some-find-unequal.q c.loop-x.invariant.0 c.in-Some-find-unequal.ensures
+    differ_unlike (sheet_of rows c.args.equations.now) rows.len (coherent_at_hand c.requires.coherent) c.loop-x.closed.of c.in-Some-find_unequal.p c.in-Some-find_unequal.q c.loop-x.invariant.0 c.in-Some-find_unequal.ensures
 
 pub returns-in-None : goal.returns-in-None
 returns-in-None c =
@@ -77,6 +77,6 @@ returns-in-None c =
     let s : Sheet = sheet_of rows c.args.equations.now in
     let n = counted rows in
     let u = c.in-None.ensures in (
-      represents_joined s rows.len (coherent_at_hand c.requires.coherent) (sym n) rows.within c.loop-x.closed.of c.loop-x.invariant.0 c.loop-x.invariant.1 c.in-default.ensures u,
+      represents_joined s rows.len (coherent_at_hand c.requires.coherent) (sym n) rows.within c.loop-x.closed.of c.loop-x.invariant.0 c.loop-x.invariant.1 c.in_default.ensures u,
       λ p h. u p (omega arith),
     )

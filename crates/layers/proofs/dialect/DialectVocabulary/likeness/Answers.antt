@@ -1,8 +1,8 @@
 use Rattle.layers.proofs.Spoken.{table_laws, likeness_none, likeness_right_none, likeness_some}
 use Rattle.layers.proofs.dialect.DialectVocabulary.likeness.Goals as goal
 
-pub returns-in-default : goal.returns-in-default
-returns-in-default g c =
+pub returns-in_default : goal.returns-in_default
+returns-in_default g c =
     let S = g.V.Degree.Scale.operations in
     let lawful = g.met.V.Degree.Scale.lawful in
     let table = c.args.self.now.table in
@@ -10,12 +10,12 @@ returns-in-default g c =
     let named = c.named.ensures in
     record {
       value =
-          likeness_none S table V lawful named.laws c.args.f _ named.value c.args.g _ c.in-default.is c.bottom.ensures;
+          likeness_none S table V lawful named.laws c.args.f _ named.value c.args.g _ c.in_default.is c.bottom.ensures;
       laws = table_laws S table V lawful named.laws;
     }
 
-pub returns-in-default-named : goal.returns-in-default-named
-returns-in-default-named g c =
+pub returns-in_default-named : goal.returns-in_default-named
+returns-in_default-named g c =
     let S = g.V.Degree.Scale.operations in
     let lawful = g.met.V.Degree.Scale.lawful in
     let table = c.args.self.now.table in
@@ -25,7 +25,7 @@ returns-in-default-named g c =
     record {
       value =
           likeness_right_none S table V lawful named.laws c.args.f _ named.value c.args.g _ other.value _
-          c.in-default-named.is c.bottom-in-default-named.ensures;
+          c.in_default-named.is c.bottom-in_default-named.ensures;
       laws = table_laws S table V lawful named.laws;
     }
 

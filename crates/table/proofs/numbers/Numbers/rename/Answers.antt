@@ -20,8 +20,8 @@ whole f xs ys i h e = e ∙ simp (take_all, drop_all, append-nil)
 pub returns : goal.returns
 returns c = whole (renamed c.args.gone c.args.keep) c.args.self.now.of c.loop-x.x-items c.loop-x.x-index (omega arith) c.loop-x.invariant
 
-pub invariant-of-self : goal.invariant-of-self
-invariant-of-self c = (
+pub invariant_of-self : goal.invariant_of-self
+invariant_of-self c = (
   ap length (whole (renamed c.args.gone c.args.keep) c.args.self.now.of c.loop-x.x-items c.loop-x.x-index (omega arith) c.loop-x.invariant)
       ∙ length-map c.args.self.now.of (renamed c.args.gone c.args.keep) ∙ c.args.self.now.size,
   tt,

@@ -8,4 +8,4 @@ use Rattle.unification.specs.Sheets.{Row}
 pub returns : goal.returns
 returns c =
     let t = c.args.self.now in
-    subst (λ (z : Option Row). Decides c.is-composed.result (kind z ≡ 0)) (sym (row_at t.items t.len c.args.p (omega (arith, t.size, t.within)) c.requires)) c.is-composed.ensures
+    subst (λ (z : Option Row). Decides c.is_composed.result (kind z ≡ 0)) (sym (row_at t.items t.len c.args.p (omega (arith, t.size, t.within)) c.requires)) c.is_composed.ensures

@@ -9,8 +9,8 @@ returns c =
     let t = c.args.self.now in
     record { rows = rows_pushed t.items t.len c.args.row (omega (arith, t.size, c.requires.room)); len = refl }
 
-pub invariant-of-self : goal.invariant-of-self
-invariant-of-self c =
+pub invariant_of-self : goal.invariant_of-self
+invariant_of-self c =
     let t = c.args.self.now in
     let h : t.len < length t.items = omega (arith, t.size, c.requires.room) in
     let n = rows_length t.items t.len (omega arith) in (

@@ -17,8 +17,8 @@ push-requires c =
 pub returns : goal.returns
 returns c = put_down c.args.self.now c.args.e c.push.new.self c.push.ensures.items
 
-pub invariant-of-self : goal.invariant-of-self
-invariant-of-self c =
+pub invariant_of-self : goal.invariant_of-self
+invariant_of-self c =
     let t = c.args.self.now in
     let k = c.args.classes.now.of in
     let d = c.args.depths.now.of in

@@ -8,8 +8,8 @@ use Rattle.unification.specs.Closures.{IsDepth}
 use Rattle.unification.specs.Sheets.{Sheet, IsCoherent, fresh}
 use Rattle.unification.specs.Tables.{Represents}
 
-pub invariant-of-result : goal.invariant-of-result
-invariant-of-result c =
+pub invariant_of-result : goal.invariant_of-result
+invariant_of-result c =
     let a = c.none.result in
     let b = c.none-2.result in
     let l = c.none.ensures in

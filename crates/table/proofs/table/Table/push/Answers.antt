@@ -8,8 +8,8 @@ use Rattle.unification.specs.Sheets.{Row, Sheet, appended}
 pub returns : goal.returns
 returns c = ap (λ (l : List Row). record { rows = l; equations = (sheet_of c.args.self.now.rows c.args.self.now.equations).equations }) c.push.ensures.rows
 
-pub invariant-of-self : goal.invariant-of-self
-invariant-of-self c =
+pub invariant_of-self : goal.invariant_of-self
+invariant_of-self c =
     let t = c.args.self.now in
     let s : Sheet = sheet_of t.rows t.equations in
     let n = c.len-n.ensures.rows in
