@@ -1,8 +1,8 @@
 ghost use Rattle.text.specs.Verdicts.{Judged};
 
 use crate::brackets::too_deep;
-use crate::demand::Demand;
 use crate::causes::TextFault;
+use crate::demand::Demand;
 use crate::lookup::check_words;
 use crate::reader::check_grammar;
 use vocabulary::Lexicon;

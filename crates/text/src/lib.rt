@@ -2,14 +2,14 @@
 #![tactic(auto)]
 
 mod brackets;
+mod causes;
 mod check;
 mod demand;
-mod causes;
 mod lexer;
 mod lookup;
 mod reader;
 mod token;
 mod words;
 
-pub use check::check_text;
 pub use causes::TextFault;
+pub use check::check_text;

@@ -6,8 +6,8 @@ ghost use Rattle.text.specs.Occurrences.{Occurrence, words};
 ghost use Rattle.text.specs.Phrases.{Phrase, Sound, bytes, count};
 ghost use Rattle.text.specs.Remains.{NextIs, occurrence};
 
-use crate::demand::Demand;
 use crate::causes::TextFault;
+use crate::demand::Demand;
 use crate::words::{WordAt, count_arguments, next_word};
 use vocabulary::Lexicon;
 

@@ -23,8 +23,8 @@ module _ {D : Type 0} (S : Operations D) (F : Family) where
         summit = p.summit;
         left = p.right;
         right = p.left;
-        from_left = p.from-right;
-        from_right = p.from-left;
+        from_left = p.from_right;
+        from_right = p.from_left;
         lowest = λ a x y cx cy. p.lowest a y x cy cx;
         is = p.is ∙ L.comm p.left p.right;
       }
@@ -56,8 +56,8 @@ module _ {D : Type 0} (S : Operations D) (L : IsScale S) (F : Family) (H : IsFam
         summit = p.summit;
         left = S.meet (degree S F f) p.left;
         right = p.right;
-        from_left = rise lf root p.from-left;
-        from_right = p.from-right;
+        from_left = rise lf root p.from_left;
+        from_right = p.from_right;
         lowest = λ a x y cx cy. let le = climb_le cy in let up = climb_up S F cx (λ e. omega arith) in p.lowest a up.0 y up.1 cy;
         is = ap (S.meet (degree S F f)) p.is ∙ sym (L.assoc (degree S F f) p.left p.right);
       }
@@ -130,18 +130,18 @@ module _ {D : Type 0} (S : Operations D) (L : IsScale S) (F : Family) (H : IsFam
 
   path_only : {f g : ℕ} {d e : D} → Path S F f g d → Path S F f g e → d ≡ e
   path_only {f} {g} {d} {e} p q =
-      let u = climb_le (p.lowest q.summit q.left q.right q.from-left q.from-right).1 in
-      let v = climb_le (q.lowest p.summit p.left p.right p.from-left p.from-right).1 in
+      let u = climb_le (p.lowest q.summit q.left q.right q.from_left q.from_right).1 in
+      let v = climb_le (q.lowest p.summit p.left p.right p.from_left p.from_right).1 in
       let same : p.summit ≡ q.summit = omega arith in
-      let a : p.left ≡ q.left = sym (climb_value p.from-left) ∙ ap (like_below S F F.count f) same ∙ climb_value q.from-left in
-      let b : p.right ≡ q.right = sym (climb_value p.from-right) ∙ ap (like_below S F F.count g) same ∙ climb_value q.from-right in
+      let a : p.left ≡ q.left = sym (climb_value p.from_left) ∙ ap (like_below S F F.count f) same ∙ climb_value q.from_left in
+      let b : p.right ≡ q.right = sym (climb_value p.from_right) ∙ ap (like_below S F F.count g) same ∙ climb_value q.from_right in
       p.is ∙ (λ i. S.meet (a i) (b i)) ∙ sym q.is
 
   -- There is one likeness of two words.
   likeness_only : {f g : ℕ} {d e : D} → IsLikeness S F f g d → IsLikeness S F f g e → d ≡ e
   likeness_only (inl p) (inl q) = path_only p q
-  likeness_only (inl p) (inr (apart, e)) = absurd (apart p.summit p.left p.right p.from-left p.from-right)
-  likeness_only (inr (apart, e)) (inl p) = absurd (apart p.summit p.left p.right p.from-left p.from-right)
+  likeness_only (inl p) (inr (apart, e)) = absurd (apart p.summit p.left p.right p.from_left p.from_right)
+  likeness_only (inr (apart, e)) (inl p) = absurd (apart p.summit p.left p.right p.from_left p.from_right)
   likeness_only (inr (apart, e)) (inr (apart', e')) = e ∙ sym e'
 
   -- The one likeness is what the function gives.

@@ -1,11 +1,11 @@
 // Family trees, over any scale: words alike through their common ancestors. It knows no text and no format.
 #![tactic(auto)]
 
-mod checks;
 mod causes;
+mod checks;
 mod table;
 mod tree;
 
-pub use checks::check_tree;
 pub use causes::{Flaw, TreeFault};
+pub use checks::check_tree;
 pub use tree::Tree;

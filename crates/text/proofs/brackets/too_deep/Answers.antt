@@ -1,7 +1,7 @@
 use Rattle.std.proofs.Common.{arith, below_more}
 use Rattle.text.proofs.Depths.{one_more, no_more}
 use Rattle.text.proofs.brackets.too_deep.Goals as goal
-use Rattle.text.proofs.brackets.too_deep.Goals.{in-40+else-opened-gt-DEEPEST, else-opened-gt-DEEPEST-via-then-opened-gt-DEEPEST+else-opened-closed, else-opened-gt-DEEPEST-via-else-opened-gt-DEEPEST, in-41, in-default}
+use Rattle.text.proofs.brackets.too_deep.Goals.{in-40+else-opened-gt-DEEPEST, else-opened-gt-DEEPEST-via-then-opened-gt-DEEPEST+else-opened-closed, else-opened-gt-DEEPEST-via-else-opened-gt-DEEPEST, in-41, in_default}
 
 pub returns-then-opened-closed : goal.returns-then-opened-closed
 returns-then-opened-closed c =
@@ -28,7 +28,7 @@ loop-i-preserved c =
           let o = no_more text i h 40 (omega arith) in
           let e = one_more text i h 41 w.in-41.is in
           (omega arith, omega arith, omega arith, omega arith, below_more _ _ c.loop-i.invariant.4 (λ e. absurd (omega arith)))
-      | in-default w ↦
+      | in_default w ↦
           let o = no_more text i h 40 (omega arith) in
           let e = no_more text i h 41 (omega arith) in
           (omega arith, omega arith, omega arith, omega arith, below_more _ _ c.loop-i.invariant.4 (λ e. absurd (omega arith)))

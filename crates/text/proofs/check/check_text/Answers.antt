@@ -4,25 +4,25 @@ use Rattle.std.proofs.lemmas.Result.{err_from_is_err_and, MatchResult-weaker}
 use Rattle.text.proofs.Judging.{judged, judged_fault, accepted_by, grammar_fault, unknown_fault, arguments_fault}
 use Rattle.text.proofs.check.check_text.Goals as goal
 
-pub returns-then-is-empty : goal.returns-then-is-empty
-returns-then-is-empty g c = judged _ _ _ _ (eqb-true _ 0 (sym c.if-is-empty.ensures))
+pub returns-then-is_empty : goal.returns-then-is_empty
+returns-then-is_empty g c = judged _ _ _ _ (eqb-true _ 0 (sym c.if-is-empty.ensures))
 
-pub returns-then-text-gt-LONGEST-TEXT : goal.returns-then-text-gt-LONGEST-TEXT
-returns-then-text-gt-LONGEST-TEXT g c = judged _ _ _ _ c.if-text-gt-LONGEST-TEXT.true
+pub returns-then-text-gt-LONGEST_TEXT : goal.returns-then-text-gt-LONGEST_TEXT
+returns-then-text-gt-LONGEST_TEXT g c = judged _ _ _ _ c.if-text-gt-LONGEST-TEXT.true
 
 pub returns-in-Some : goal.returns-in-Some
 returns-in-Some g c =
     let some = eqb-false _ 0 (sym c.if-is-empty.ensures) in
     judged _ _ _ _ ((omega (arith, some), c.if-text-gt-LONGEST-TEXT.false), c.in-Some.ensures)
 
-pub returns-in-err-check-grammar : goal.returns-in-err-check-grammar
-returns-in-err-check-grammar g c =
+pub returns-in_err-check_grammar : goal.returns-in_err-check_grammar
+returns-in_err-check_grammar g c =
     let some = eqb-false _ 0 (sym c.if-is-empty.ensures) in
     let p = err_from_is_err_and c.from-residual.result c.from-residual.ensures.1 in
     judged_fault _ _ _ _ _ p.1 (grammar_fault _ _ _ _ _ p.2 (omega (arith, some), c.if-text-gt-LONGEST-TEXT.false) c.in-default.ensures c.in-err-check-grammar.ensures)
 
-pub returns-in-err-check-words : goal.returns-in-err-check-words
-returns-in-err-check-words g c =
+pub returns-in_err-check_words : goal.returns-in_err-check_words
+returns-in_err-check_words g c =
     let some = eqb-false _ 0 (sym c.if-is-empty.ensures) in
     let p = err_from_is_err_and c.from-residual-in-err-check-words.result c.from-residual-in-err-check-words.ensures.1 in
     let i = c.in-ok-check-grammar.ensures in

@@ -5,7 +5,7 @@ use Rattle.text.specs.Tokens.{begins, Lexed}
 use Rattle.text.proofs.Spelling.{stop_at, stop_end, word_is, part_on, ranged, outside, lexed_one}
 use Rattle.text.proofs.lexer.lex.Goals as goal
 use Rattle.text.proofs.lexer.lex.Goals.{in-40, in-41, in-44}
-use Rattle.text.proofs.lexer.lex.Goals.{in-default-via-then-this-lt97, in-default-via-else-this-lt97+else-this-lt123}
+use Rattle.text.proofs.lexer.lex.Goals.{in_default-via-then-this-lt97, in_default-via-else-this-lt97+else-this-lt123}
 
 pub returns-then-at-text : goal.returns-then-at-text
 returns-then-at-text c = record { past = omega arith; within = omega arith; why = inl (c.stray.ensures, stop_end begins c.args.text.now c.args.at (omega arith)) }
@@ -14,8 +14,8 @@ pub returns-in-97-to-122 : goal.returns-in-97-to-122
 returns-in-97-to-122 c =
     let text = c.args.text.now in
     let at = c.args.at in
-    let e = c.word-end-end.result in
-    let told = c.word-end-end.ensures in
+    let e = c.word_end-end.result in
+    let told = c.word_end-end.ensures in
     let low : 97 ≤ get_or text at 0 = omega arith in
     let high : get_or text at 0 ≤ 122 = omega arith in
     let w = word_is text at e told.past told.within told.few (ranged (get_or text at 0) low high) told.wordy in
@@ -27,8 +27,8 @@ returns-in-97-to-122 c =
       fair = (w.0, λ h. told.stops (omega (arith, w.1)));
     }
 
-pub returns-in-default : goal.returns-in-default
-returns-in-default c =
+pub returns-in_default : goal.returns-in_default
+returns-in_default c =
     let text = c.args.text.now in
     let at = c.args.at in
     let b = get_or text at 0 in
@@ -36,10 +36,10 @@ returns-in-default c =
       past = omega arith;
       within = omega arith;
       why = inl (
-        c.stray-in-default.ensures,
-        stop_at begins text at (elim c.in-default.branch [
-          | in-default-via-then-this-lt97 w ↦ outside b (inl (omega arith)) (omega arith) (omega arith) (omega arith) (omega arith)
-          | in-default-via-else-this-lt97+else-this-lt123 w ↦ outside b (inr (omega arith)) (omega arith) (omega arith) (omega arith) (omega arith)
+        c.stray-in_default.ensures,
+        stop_at begins text at (elim c.in_default.branch [
+          | in_default-via-then-this-lt97 w ↦ outside b (inl (omega arith)) (omega arith) (omega arith) (omega arith) (omega arith)
+          | in_default-via-else-this-lt97+else-this-lt123 w ↦ outside b (inr (omega arith)) (omega arith) (omega arith) (omega arith) (omega arith)
         ]),
       );
     }

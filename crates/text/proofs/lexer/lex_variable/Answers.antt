@@ -2,8 +2,8 @@ use Rattle.std.proofs.Common.{◌≡◌, ◌+◌, ◌∷◌, ◌++◌, get_or, d
 use Rattle.text.specs.Tokens.{digit}
 use Rattle.text.proofs.Spelling.{stop_at, stop_end, one_on, decimal_one, decimal_two, digit_range}
 use Rattle.text.proofs.lexer.lex_variable.Goals as goal
-use Rattle.text.proofs.lexer.lex_variable.Goals.{then-one-text-via-then-one-text, then-one-text-via-else-one-text+then-not-is-digit}
-use Rattle.text.proofs.lexer.lex_variable.Goals.{then-tens-eq-ZERO-via-then-tens-eq-ZERO, then-tens-eq-ZERO-via-else-tens-eq-ZERO+then-two-text, then-tens-eq-ZERO-via-else-tens-eq-ZERO+else-two-text+then-not-is-digit-2}
+use Rattle.text.proofs.lexer.lex_variable.Goals.{then-one-text-via-then-one-text, then-one-text-via-else-one-text+then-not-is_digit}
+use Rattle.text.proofs.lexer.lex_variable.Goals.{then-tens-eq-ZERO-via-then-tens-eq-ZERO, then-tens-eq-ZERO-via-else-tens-eq-ZERO+then-two-text, then-tens-eq-ZERO-via-else-tens-eq-ZERO+else-two-text+then-not-is_digit-2}
 
 pub returns-then-one-text : goal.returns-then-one-text
 returns-then-one-text c = record {
@@ -14,7 +14,7 @@ returns-then-one-text c = record {
     one_on c.args.text.now c.args.at 63 c.requires.within c.requires.mark,
     elim c.then-one-text.branch [
       | then-one-text-via-then-one-text w ↦ stop_end digit c.args.text.now (c.args.at + 1) (omega arith)
-      | then-one-text-via-else-one-text+then-not-is-digit w ↦ stop_at digit c.args.text.now (c.args.at + 1) (sym w.if-not-is-digit.ensures)
+      | then-one-text-via-else-one-text+then-not-is_digit w ↦ stop_at digit c.args.text.now (c.args.at + 1) (sym w.if-not-is_digit.ensures)
     ],
   );
 }
@@ -24,7 +24,7 @@ returns-then-tens-eq-ZERO c =
     let text = c.args.text.now in
     let at = c.args.at in
     let d = get_or text (at + 1) 0 in
-    let dig : digit d ≡ _ = sym c.if-not-is-digit.ensures in
+    let dig : digit d ≡ _ = sym c.if-not-is_digit.ensures in
     let range = digit_range d dig in
     let first : drop at text ≡ 63 ∷ drop (at + 1) text = one_on text at 63 c.requires.within c.requires.mark in
     let second : drop (at + 1) text ≡ d ∷ drop (at + 1 + 1) text = one_on text (at + 1) d c.if-one-text.false refl in
@@ -38,7 +38,7 @@ returns-then-tens-eq-ZERO c =
         λ some one. elim c.then-tens-eq-ZERO.branch [
           | then-tens-eq-ZERO-via-then-tens-eq-ZERO w ↦ absurd (omega (arith, w.if-tens-eq-ZERO))
           | then-tens-eq-ZERO-via-else-tens-eq-ZERO+then-two-text w ↦ stop_end digit text (at + 1 + 1) (omega (arith, w.if-two-text))
-          | then-tens-eq-ZERO-via-else-tens-eq-ZERO+else-two-text+then-not-is-digit-2 w ↦ stop_at digit text (at + 1 + 1) (sym w.if-not-is-digit-2.ensures)
+          | then-tens-eq-ZERO-via-else-tens-eq-ZERO+else-two-text+then-not-is_digit-2 w ↦ stop_at digit text (at + 1 + 1) (sym w.if-not-is_digit-2.ensures)
         ],
       );
     }
@@ -49,8 +49,8 @@ returns c =
     let at = c.args.at in
     let d = get_or text (at + 1) 0 in
     let e = get_or text (at + 1 + 1) 0 in
-    let dig : digit d ≡ _ = sym c.if-not-is-digit.ensures in
-    let eig : digit e ≡ _ = sym c.if-not-is-digit-2.ensures in
+    let dig : digit d ≡ _ = sym c.if-not-is_digit.ensures in
+    let eig : digit e ≡ _ = sym c.if-not-is_digit-2.ensures in
     let range = digit_range d dig in
     let ronge = digit_range e eig in
     let first : drop at text ≡ 63 ∷ drop (at + 1) text = one_on text at 63 c.requires.within c.requires.mark in

@@ -4,62 +4,62 @@ use Rattle.text.specs.Course.{PhraseStops, ArgumentsStop}
 use Rattle.text.proofs.Reading.{word_to, lexed_parts, lexed_opens, none_parts, none_opens, phrase_none, phrase_other, phrase_variable, phrase_plain, phrase_applied, phrase_applied_stops, arguments_first, arguments_unended, arguments_last, one_further}
 use Rattle.text.proofs.reader.+read_arguments_read_term.Goals as goal
 
-pub read-arguments-loop-end-preserved : goal.read-arguments-loop-end-preserved
-read-arguments-loop-end-preserved t c =
-    one_further c.args.text.now c.args.at _ _ _ c.loop-end.invariant c.in-ok-end.ensures c.in-Ok.ensures c.in-Comma.is
+pub read_arguments-loop-end-preserved : goal.read_arguments-loop-end-preserved
+read_arguments-loop-end-preserved t c =
+    one_further c.args.text.now c.args.at _ _ _ c.loop-end.invariant c.in_ok-end.ensures c.in-Ok.ensures c.in-Comma.is
 
-pub read-arguments-returns-in-err-end : goal.read-arguments-returns-in-err-end
-read-arguments-returns-in-err-end t c =
-    let p = err_from_is_err_and c.from-residual.result c.from-residual.ensures.1 in
-    rw (p.1, p.2) (c.loop-end.invariant.stops _ (arguments_first c.args.text.now _ _ c.in-err-end.ensures))
+pub read_arguments-returns-in_err-end : goal.read_arguments-returns-in_err-end
+read_arguments-returns-in_err-end t c =
+    let p = err_from_is_err_and c.from_residual.result c.from_residual.ensures.1 in
+    rw (p.1, p.2) (c.loop-end.invariant.stops _ (arguments_first c.args.text.now _ _ c.in_err-end.ensures))
 
-pub read-arguments-returns-in-Close : goal.read-arguments-returns-in-Close
-read-arguments-returns-in-Close t c =
-    c.loop-end.invariant.to _ (arguments_last c.args.text.now _ _ c.in-ok-end.ensures _ c.in-Ok.ensures c.in-Close.is)
+pub read_arguments-returns-in-Close : goal.read_arguments-returns-in-Close
+read_arguments-returns-in-Close t c =
+    c.loop-end.invariant.to _ (arguments_last c.args.text.now _ _ c.in_ok-end.ensures _ c.in-Ok.ensures c.in-Close.is)
 
-pub read-arguments-returns-in-default : goal.read-arguments-returns-in-default
-read-arguments-returns-in-default t c =
+pub read_arguments-returns-in_default : goal.read_arguments-returns-in_default
+read_arguments-returns-in_default t c =
     let text = c.args.text.now in
-    subst (ArgumentsStop text c.args.at) (sym c.stray.ensures) (c.loop-end.invariant.stops _ (arguments_unended text _ _ c.in-ok-end.ensures (lexed_parts text _ _ c.in-Ok.ensures c.in-default.not-Comma c.in-default.not-Close)))
+    subst (ArgumentsStop text c.args.at) (sym c.stray.ensures) (c.loop-end.invariant.stops _ (arguments_unended text _ _ c.in_ok-end.ensures (lexed_parts text _ _ c.in-Ok.ensures c.in_default.not-Comma c.in_default.not-Close)))
 
-pub read-arguments-returns-in-Err : goal.read-arguments-returns-in-Err
-read-arguments-returns-in-Err t c =
+pub read_arguments-returns-in-Err : goal.read_arguments-returns-in-Err
+read_arguments-returns-in-Err t c =
     let text = c.args.text.now in
-    subst (ArgumentsStop text c.args.at) (sym c.stray-in-Err.ensures) (c.loop-end.invariant.stops _ (arguments_unended text _ _ c.in-ok-end.ensures (none_parts text _ _ c.in-Err.ensures)))
+    subst (ArgumentsStop text c.args.at) (sym c.stray-in-Err.ensures) (c.loop-end.invariant.stops _ (arguments_unended text _ _ c.in_ok-end.ensures (none_parts text _ _ c.in-Err.ensures)))
 
-pub read-term-returns-in-err-first : goal.read-term-returns-in-err-first
-read-term-returns-in-err-first t c =
-    let p = err_from_is_err_and c.from-residual.result c.from-residual.ensures.1 in
-    rw (p.1, p.2) (phrase_none c.args.text.now c.args.at _ c.in-err-first.ensures)
+pub read_term-returns-in_err-first : goal.read_term-returns-in_err-first
+read_term-returns-in_err-first t c =
+    let p = err_from_is_err_and c.from_residual.result c.from_residual.ensures.1 in
+    rw (p.1, p.2) (phrase_none c.args.text.now c.args.at _ c.in_err-first.ensures)
 
-pub read-term-returns-in-Variable : goal.read-term-returns-in-Variable
-read-term-returns-in-Variable t c =
-    phrase_variable c.args.text.now c.args.at c.in-ok-first.first _ c.in-ok-first.ensures c.in-Variable.is
+pub read_term-returns-in-Variable : goal.read_term-returns-in-Variable
+read_term-returns-in-Variable t c =
+    phrase_variable c.args.text.now c.args.at c.in_ok-first.first _ c.in_ok-first.ensures c.in-Variable.is
 
-pub read-term-returns-in-Open : goal.read-term-returns-in-Open
-read-term-returns-in-Open t c =
+pub read_term-returns-in-Open : goal.read_term-returns-in-Open
+read_term-returns-in-Open t c =
     let text = c.args.text.now in
     let at = c.args.at in
-    let w = word_to text at c.in-ok-first.first c.in-Word.field-0 c.in-ok-first.ensures c.in-Word.is in
+    let w = word_to text at c.in_ok-first.first c.in-Word.field-0 c.in_ok-first.ensures c.in-Word.is in
     let l = c.in-Ok.ensures in
-    MatchResult-weaker c.read-arguments.result c.read-arguments.ensures (phrase_applied text at _ _ w _ l c.in-Open.is) (phrase_applied_stops text at _ _ w _ l c.in-Open.is)
+    MatchResult-weaker c.read_arguments.result c.read_arguments.ensures (phrase_applied text at _ _ w _ l c.in-Open.is) (phrase_applied_stops text at _ _ w _ l c.in-Open.is)
 
-pub read-term-returns-in-default-token : goal.read-term-returns-in-default-token
-read-term-returns-in-default-token t c =
+pub read_term-returns-in_default-token : goal.read_term-returns-in_default-token
+read_term-returns-in_default-token t c =
     let text = c.args.text.now in
     let at = c.args.at in
-    let w = word_to text at c.in-ok-first.first c.in-Word.field-0 c.in-ok-first.ensures c.in-Word.is in
-    phrase_plain text at _ _ w (lexed_opens text _ _ c.in-Ok.ensures c.in-default-token.not-Open)
+    let w = word_to text at c.in_ok-first.first c.in-Word.field-0 c.in_ok-first.ensures c.in-Word.is in
+    phrase_plain text at _ _ w (lexed_opens text _ _ c.in-Ok.ensures c.in_default-token.not-Open)
 
-pub read-term-returns-in-Err : goal.read-term-returns-in-Err
-read-term-returns-in-Err t c =
+pub read_term-returns-in-Err : goal.read_term-returns-in-Err
+read_term-returns-in-Err t c =
     let text = c.args.text.now in
     let at = c.args.at in
-    let w = word_to text at c.in-ok-first.first c.in-Word.field-0 c.in-ok-first.ensures c.in-Word.is in
+    let w = word_to text at c.in_ok-first.first c.in-Word.field-0 c.in_ok-first.ensures c.in-Word.is in
     phrase_plain text at _ _ w (none_opens text _ _ c.in-Err.ensures)
 
-pub read-term-returns-in-default : goal.read-term-returns-in-default
-read-term-returns-in-default t c =
+pub read_term-returns-in_default : goal.read_term-returns-in_default
+read_term-returns-in_default t c =
     let text = c.args.text.now in
     let at = c.args.at in
-    subst (PhraseStops text at) (sym c.stray.ensures) (phrase_other text at c.in-ok-first.first c.in-ok-first.ensures c.in-default.not-Word c.in-default.not-Variable)
+    subst (PhraseStops text at) (sym c.stray.ensures) (phrase_other text at c.in_ok-first.first c.in_ok-first.ensures c.in_default.not-Word c.in_default.not-Variable)

@@ -5,7 +5,7 @@ use Rattle.text.proofs.Spelling.{one_on, stop_at, stop_end}
 use Rattle.text.proofs.Tally.{tally, none_given, some_given, closes, in_open, in_close, in_comma, in_inner_comma, in_other, unopened}
 use Rattle.text.proofs.words.count_arguments.Goals as goal
 use Rattle.text.proofs.words.count_arguments.Goals.{then-end-text-via-then-end-text, then-end-text-via-else-end-text+then-text-end-ne40}
-use Rattle.text.proofs.words.count_arguments.Goals.{in-40, in-41+else-inner-eq0, in-44+then-inner-eq0-2, in-44+else-inner-eq0-2, in-default}
+use Rattle.text.proofs.words.count_arguments.Goals.{in-40, in-41+else-inner-eq0, in-44+then-inner-eq0-2, in-44+else-inner-eq0-2, in_default}
 
 pub returns-then-end-text : goal.returns-then-end-text
 returns-then-end-text c ps behind sound ended read =
@@ -39,7 +39,7 @@ loop-i-preserved c =
           (omega (arith, w.arguments-is), omega (arith, w.inner-is), (λ k. tally (w.inner-is k) (w.arguments-is k) (drop (i + 1) text)) ∙ in_comma text i _ _ h w.in-44.is w.if-inner-eq0-2.true ∙ inv.2)
       | in-44+else-inner-eq0-2 w ↦
           (omega (arith, w.arguments-is), omega (arith, w.inner-is), (λ k. tally (w.inner-is k) (w.arguments-is k) (drop (i + 1) text)) ∙ in_inner_comma text i _ _ h w.in-44.is (omega (arith, w.if-inner-eq0-2.false)) ∙ inv.2)
-      | in-default w ↦
+      | in_default w ↦
           (omega (arith, w.arguments-is), omega (arith, w.inner-is), (λ k. tally (w.inner-is k) (w.arguments-is k) (drop (i + 1) text)) ∙ in_other text i _ _ h (omega arith) (omega arith) (omega arith) ∙ inv.2)
     ]
 

@@ -13,7 +13,7 @@ returns-in-Word c =
 pub loop-part-preserved : goal.loop-part-preserved
 loop-part-preserved c =
     let l = c.in-Ok.ensures in
-    (omega (arith, c.loop-part.invariant.0, l.past), l.within, λ ws r. advance c.args.text.now _ _ ws l c.in-default.not-Word (c.loop-part.invariant.2 ws r))
+    (omega (arith, c.loop-part.invariant.0, l.past), l.within, λ ws r. advance c.args.text.now _ _ ws l c.in_default.not-Word (c.loop-part.invariant.2 ws r))
 
 pub returns-in-Err : goal.returns-in-Err
 returns-in-Err c = record {

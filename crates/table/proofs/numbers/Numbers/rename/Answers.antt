@@ -10,8 +10,8 @@ loop-x-preserved c =
     let f : ℕ → ℕ = renamed c.args.gone c.args.keep in
     let x : ℕ = get_or c.loop-x.x-items c.loop-x.x-index 0 in
     elim c.if-x-gone.branch [
-      | then-x-gone w ↦ w.x·items-is ∙ map_step f c.args.self.now.of c.loop-x.x-items c.loop-x.x-index _ (omega arith) (omega arith) c.loop-x.invariant (renamed_same c.args.gone c.args.keep x w.if-x-gone.true)
-      | else-x-gone w ↦ w.x·items-is ∙ map_step f c.args.self.now.of c.loop-x.x-items c.loop-x.x-index _ (omega arith) (omega arith) c.loop-x.invariant (renamed_other c.args.gone c.args.keep x w.if-x-gone.false)
+      | then-x-gone w ↦ w.x-items-is ∙ map_step f c.args.self.now.of c.loop-x.x-items c.loop-x.x-index _ (omega arith) (omega arith) c.loop-x.invariant (renamed_same c.args.gone c.args.keep x w.if-x-gone.true)
+      | else-x-gone w ↦ w.x-items-is ∙ map_step f c.args.self.now.of c.loop-x.x-items c.loop-x.x-index _ (omega arith) (omega arith) c.loop-x.invariant (renamed_other c.args.gone c.args.keep x w.if-x-gone.false)
     ]
 
 whole : (f : ℕ → ℕ) (xs ys : List ℕ) (i : ℕ) → length xs ≤ i → ys ≡ map f (take i xs) ++ drop i xs → ys ≡ map f xs
@@ -21,8 +21,6 @@ pub returns : goal.returns
 returns c = whole (renamed c.args.gone c.args.keep) c.args.self.now.of c.loop-x.x-items c.loop-x.x-index (omega arith) c.loop-x.invariant
 
 pub invariant_of-self : goal.invariant_of-self
-invariant_of-self c = (
-  ap length (whole (renamed c.args.gone c.args.keep) c.args.self.now.of c.loop-x.x-items c.loop-x.x-index (omega arith) c.loop-x.invariant)
-      ∙ length-map c.args.self.now.of (renamed c.args.gone c.args.keep) ∙ c.args.self.now.size,
-  tt,
-)
+invariant_of-self c =
+    ap length (whole (renamed c.args.gone c.args.keep) c.args.self.now.of c.loop-x.x-items c.loop-x.x-index (omega arith) c.loop-x.invariant)
+        ∙ length-map c.args.self.now.of (renamed c.args.gone c.args.keep) ∙ c.args.self.now.size

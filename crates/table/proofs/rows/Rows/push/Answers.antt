@@ -13,17 +13,12 @@ pub invariant_of-self : goal.invariant_of-self
 invariant_of-self c =
     let t = c.args.self.now in
     let h : t.len < length t.items = omega (arith, t.size, c.requires.room) in
-    let n = rows_length t.items t.len (omega arith) in (
-      length-set t.items t.len c.args.row ∙ t.size,
-      (
-        omega (arith, c.requires.room),
-        (
-          slots_pushed t.items t.len c.args.row h t.slots c.requires.slots,
-          (
-            subst Lower (sym (rows_pushed t.items t.len c.args.row h)) (lower_pushed (rows_of t.items t.len) (row_of c.args.row) t.lower
-                (λ i k. subst (λ (z : ℕ). get_or (args_of (some (row_of c.args.row))) i 0 < z) (sym n) (c.requires.lower i k))),
-            tt,
-          ),
-        ),
-      ),
-    )
+    let n = rows_length t.items t.len (omega arith) in
+    record {
+      size = length-set t.items t.len c.args.row ∙ t.size;
+      within = omega (arith, c.requires.room);
+      slots = slots_pushed t.items t.len c.args.row h t.slots c.requires.slots;
+      lower =
+          subst Lower (sym (rows_pushed t.items t.len c.args.row h)) (lower_pushed (rows_of t.items t.len) (row_of c.args.row) t.lower
+              (λ i k. subst (λ (z : ℕ). get_or (args_of (some (row_of c.args.row))) i 0 < z) (sym n) (c.requires.lower i k)));
+    }

@@ -13,13 +13,11 @@ invariant_of-result c =
     let a = c.none.result in
     let b = c.none-2.result in
     let l = c.none.ensures in
-    let e : fresh ≡ sheet_of a b = sym (no_rows a.items a.len b.items b.len l c.none-2.ensures) in (
-      subst (λ (s : Sheet). ∥ IsCoherent s ∥₁) e ∣ fresh_coherent ∣₁,
-      (
-        subst (λ (s : Sheet). ∥ Represents s (at c.zeros.result.of) ∥₁) e ∣ fresh_represents (at c.zeros.result.of) ∣₁,
-        (
-          subst (λ (s : Sheet). IsDepth s (depth_at c.zeros.result.of c.zeros-2.result.of)) e (fresh_depth (depth_at c.zeros.result.of c.zeros-2.result.of)),
-          (λ p h. absurd (omega arith), (λ p h. absurd (omega arith), tt)),
-        ),
-      ),
-    )
+    let e : fresh ≡ sheet_of a b = sym (no_rows a.items a.len b.items b.len l c.none-2.ensures) in
+    record {
+      coherent = subst (λ (s : Sheet). ∥ IsCoherent s ∥₁) e ∣ fresh_coherent ∣₁;
+      represents = subst (λ (s : Sheet). ∥ Represents s (at c.zeros.result.of) ∥₁) e ∣ fresh_represents (at c.zeros.result.of) ∣₁;
+      falls = subst (λ (s : Sheet). IsDepth s (depth_at c.zeros.result.of c.zeros-2.result.of)) e (fresh_depth (depth_at c.zeros.result.of c.zeros-2.result.of));
+      within = λ p h. absurd (omega arith);
+      shallow = λ p h. absurd (omega arith);
+    }

@@ -18,7 +18,7 @@ loop-f-preserved g c =
       omega arith,
       omega (arith, c.loop-f.invariant),
       like_turn _ g.met.S.Scale.lawful (tabled table) _ _ _ _ _ _ _ c.loop-f.invariant.0 c.loop-f.invariant.1
-          c.loop-f-test.true c.max-high.ensures c.min-g.ensures c.loop-f.invariant.2 _ _ c.degree-of.ensures
+          c.loop-f-test.true c.max-high.ensures c.min-g.ensures c.loop-f.invariant.2 _ _ c.degree_of.ensures
           c.meet-degree.ensures lower c.if-parent-high.false,
     )
 
