@@ -13,7 +13,7 @@ const LONGEST_TEXT: usize = 4096;
 /// Whether the bytes are the text of a term over the words of the lexicon, of which those numbered below the
 /// number of arities are the vocabulary's. The checks run in the order of their numbers, each over the whole text.
 pub fn check_text<L: Lexicon>(text: &[u8], lexicon: &L, arities: &[u8]) -> Result<(), TextFault>
-    ensures { Judged (spellings lexicon.now) arities.now text.now result }
+    ensures { Judged (L.Lexicon.spellings lexicon.now) arities.now text.now result }
 {
     if text.is_empty() {
         return Err(TextFault::Empty);

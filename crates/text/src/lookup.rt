@@ -14,8 +14,8 @@ use vocabulary::Lexicon;
 /// How many arguments the word takes that is spelled so, if the lexicon and the vocabulary have it.
 fn arity_of<L: Lexicon>(lexicon: &L, arities: &[u8], spelling: &[u8]) -> Option<u8>
     ensures { MatchOption result
-        (Lacking (spellings lexicon.now) arities.now spelling.now)
-        (Arity (spellings lexicon.now) arities.now spelling.now) }
+        (Lacking (L.Lexicon.spellings lexicon.now) arities.now spelling.now)
+        (Arity (L.Lexicon.spellings lexicon.now) arities.now spelling.now) }
 {
     match lexicon.word(spelling) {
         Some(word) => {
@@ -40,8 +40,8 @@ fn grants<L: Lexicon>(
 ) -> bool
     requires { word.end ≤ length text.now }
     ensures { (ws : List Occurrence) (n : NextIs text.now ws word.entry) → MatchBool result
-        (Granted (spellings lexicon.now) arities.now demand (occurrence word.entry (count n.given)))
-        (Asked (spellings lexicon.now) arities.now demand (occurrence word.entry (count n.given)) → ⊥) }
+        (Granted (L.Lexicon.spellings lexicon.now) arities.now demand (occurrence word.entry (count n.given)))
+        (Asked (L.Lexicon.spellings lexicon.now) arities.now demand (occurrence word.entry (count n.given)) → ⊥) }
 {
     match arity_of(lexicon, arities, word.spelling) {
         Some(arity) => match demand {
@@ -61,8 +61,8 @@ pub fn check_words<L: Lexicon>(
 ) -> Result<(), TextFault>
     requires { length text.now ≤ longest_text }
     ensures { (p : Phrase) → Sound p → bytes p ≡ text.now → MatchResult result
-        (λ _. All (Granted (spellings lexicon.now) arities.now demand) (words 0 p))
-        (Told (Asked (spellings lexicon.now) arities.now demand) (words 0 p) (cause demand)) }
+        (λ _. All (Granted (L.Lexicon.spellings lexicon.now) arities.now demand) (words 0 p))
+        (Told (Asked (L.Lexicon.spellings lexicon.now) arities.now demand) (words 0 p) (cause demand)) }
 {
     let mut at = 0;
     while let Some(word) = next_word(text, at) {

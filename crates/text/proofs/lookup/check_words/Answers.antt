@@ -33,4 +33,4 @@ returns-then-not-grants g c p sound written =
     }
 
 pub returns : goal.returns
-returns g c p sound written = passed_all _ c.args.text.now _ (words 0 p) (c.loop-word.invariant.1 p sound written) c.in-default.ensures.finds
+returns g c p sound written = passed_all _ c.args.text.now _ (words 0 p) (c.loop-word.invariant.1 p sound written) c.in_default.ensures.finds

@@ -22,5 +22,8 @@ returns c = whole (renamed c.args.gone c.args.keep) c.args.self.now.of c.loop-x.
 
 pub invariant_of-self : goal.invariant_of-self
 invariant_of-self c =
-    ap length (whole (renamed c.args.gone c.args.keep) c.args.self.now.of c.loop-x.x-items c.loop-x.x-index (omega arith) c.loop-x.invariant)
-        ∙ length-map c.args.self.now.of (renamed c.args.gone c.args.keep) ∙ c.args.self.now.size
+    record {
+      size =
+          ap length (whole (renamed c.args.gone c.args.keep) c.args.self.now.of c.loop-x.x-items c.loop-x.x-index (omega arith) c.loop-x.invariant)
+              ∙ length-map c.args.self.now.of (renamed c.args.gone c.args.keep) ∙ c.args.self.now.size;
+    }
