@@ -7,5 +7,5 @@ use Rattle.report.proofs.books.marks_report.Goals as goal
 pub returns : goal.returns
 returns c =
     let count = c.count-count.ensures.value ∙ ap count_of c.new-book.ensures in
-    let words = c.in-ok-words.ensures ∙ ap marks_words c.new-book.ensures in
+    let words = c.in_ok-words.ensures ∙ ap marks_words c.new-book.ensures in
     retold string_bytes _ _ _ c.format.ensures.ok (λ i. marks_text (count i) (words i))

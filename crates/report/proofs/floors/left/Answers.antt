@@ -11,6 +11,6 @@ returns g c =
     let told = g.D.Told.told in
     let spellings = g.L.Lexicon.spellings c.args.lexicon.now in
     let words =
-    c.in-ok-left.ensures ∙
+    c.in_ok-left.ensures ∙
     (λ i. words_text S told (floored S (c.new-floor.ensures.degree i) (g.V.Vocabulary.model (c.new-floor.ensures.below i))) spellings) in
-    retold string_bytes _ _ _ c.format.ensures.ok (λ i. above_text (c.in-ok-told.ensures i) (words i))
+    retold string_bytes _ _ _ c.format.ensures.ok (λ i. above_text (c.in_ok-told.ensures i) (words i))

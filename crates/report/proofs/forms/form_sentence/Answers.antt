@@ -13,8 +13,8 @@ returns-in-Kind c =
 
 pub returns-in-TableCut : goal.returns-in-TableCut
 returns-in-TableCut c =
-    told string_bytes (form_sentence c.args.bytes.now) _ _ _ c.in-TableCut.is c.from-str-in-TableCut.ensures.ok
+    told string_bytes (form_sentence c.args.bytes.now) _ _ _ c.in-TableCut.is c.from_str-in-TableCut.ensures.ok
 
 pub returns-in-LeftOver : goal.returns-in-LeftOver
 returns-in-LeftOver c =
-    told string_bytes (form_sentence c.args.bytes.now) _ _ _ c.in-LeftOver.is c.from-str-in-LeftOver.ensures.ok
+    told string_bytes (form_sentence c.args.bytes.now) _ _ _ c.in-LeftOver.is c.from_str-in-LeftOver.ensures.ok

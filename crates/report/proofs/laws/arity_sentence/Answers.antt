@@ -6,4 +6,4 @@ use Rattle.report.proofs.laws.arity_sentence.Goals as goal
 pub returns : goal.returns
 returns g c =
     retold string_bytes _ _ _ c.format.ensures.ok
-    (λ i. arguments_clash_text (c.in-ok-words.ensures i) (c.in-ok-degree.ensures i) (c.in-ok-first.ensures i) (c.in-ok-second.ensures i))
+    (λ i. arguments_clash_text (c.in_ok-words.ensures i) (c.in_ok-degree.ensures i) (c.in_ok-first.ensures i) (c.in_ok-second.ensures i))

@@ -6,4 +6,4 @@ use Rattle.report.proofs.laws.both.Goals as goal
 pub returns : goal.returns
 returns c =
     retold string_bytes _ _ _ c.format.ensures.ok
-    (λ i. both_text (c.in-ok-one.ensures i) (c.in-ok-other.ensures i))
+    (λ i. both_text (c.in_ok-one.ensures i) (c.in_ok-other.ensures i))

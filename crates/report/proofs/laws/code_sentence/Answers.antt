@@ -6,4 +6,4 @@ use Rattle.report.proofs.laws.code_sentence.Goals as goal
 pub returns : goal.returns
 returns g c =
     retold string_bytes _ _ _ c.format.ensures.ok
-    (λ i. no_mark_text (c.in-ok-words.ensures i) (c.in-ok-code.ensures i))
+    (λ i. no_mark_text (c.in_ok-words.ensures i) (c.in_ok-code.ensures i))

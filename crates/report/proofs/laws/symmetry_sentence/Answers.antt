@@ -6,4 +6,4 @@ use Rattle.report.proofs.laws.symmetry_sentence.Goals as goal
 pub returns : goal.returns
 returns g c =
     retold string_bytes _ _ _ c.format.ensures.ok
-    (λ i. turned_text (c.in-ok-words.ensures i) (c.in-ok-there.ensures i) (c.in-ok-turned.ensures i) (c.in-ok-back.ensures i))
+    (λ i. turned_text (c.in_ok-words.ensures i) (c.in_ok-there.ensures i) (c.in_ok-turned.ensures i) (c.in_ok-back.ensures i))

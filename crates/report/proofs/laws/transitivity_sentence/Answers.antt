@@ -6,4 +6,4 @@ use Rattle.report.proofs.laws.transitivity_sentence.Goals as goal
 pub returns : goal.returns
 returns g c =
     retold string_bytes _ _ _ c.format.ensures.ok
-    (λ i. weak_text (c.in-ok-words.ensures i) (c.in-ok-degree.ensures i) (c.in-ok-between.ensures i) (c.in-ok-through.ensures i))
+    (λ i. weak_text (c.in_ok-words.ensures i) (c.in_ok-degree.ensures i) (c.in_ok-between.ensures i) (c.in_ok-through.ensures i))

@@ -7,11 +7,11 @@ loop-blank-init c = c.new-line.ensures.bytes ∙ listing_none (λ i. codes " ") 
 
 pub loop-blank-preserved : goal.loop-blank-preserved
 loop-blank-preserved c =
-    c.in-ok-push-str.ensures.bytes ∙
-    listing_more (λ i. codes " ") [] c.loop-blank.-blank _ _ c.loop-blank.invariant refl
+    c.in_ok-push_str.ensures.bytes ∙
+    listing_more (λ i. codes " ") [] c.loop-blank._blank _ _ c.loop-blank.invariant refl
 
 pub returns : goal.returns
 returns c =
-    c.in-ok-push-str-2.ensures.bytes ∙
+    c.in_ok-push_str-2.ensures.bytes ∙
     ap (λ (t : List ℕ). t ++ codes "^")
-    (listing_all (λ i. codes " ") [] c.args.place c.loop-blank.-blank _ c.loop-blank.invariant (omega arith) (omega arith))
+    (listing_all (λ i. codes " ") [] c.args.place c.loop-blank._blank _ c.loop-blank.invariant (omega arith) (omega arith))

@@ -3,4 +3,4 @@ use Rattle.account.specs.Degrees.{listing}
 use Rattle.report.proofs.texts.caret.Given as goal
 
 abbrev pub invariant-loop-blank : goal.invariant-loop-blank
-invariant-loop-blank l = string_bytes l.line ≡ [] ++ listing l.-blank (λ i. codes " ")
+invariant-loop-blank l = string_bytes l.line ≡ [] ++ listing l._blank (λ i. codes " ")

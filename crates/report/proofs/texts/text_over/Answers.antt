@@ -16,8 +16,8 @@ returns g c =
     (omega (arith, c.arities-list.ensures.len, c.count-count.ensures.laws.few)) c.arities-list.ensures.places in
     told_only
     (λ (p : Report) (w : Result (Unit {0}) TextFault). (p.accepted ≡ is_ok w) × (string_bytes p.text ≡ text_report c.args.text.now w))
-    (Verdict spellings (arity_list V.count V.arity) c.args.text.now) _ _ c.text-verdict.ensures
+    (Verdict spellings (arity_list V.count V.arity) c.args.text.now) _ _ c.text_verdict.ensures
     (λ w fits.
-    c.check-text-verdict.ensures.only w
-    (subst (λ (t : List ℕ). Verdict spellings (take (c.count-count.result - 0) c.arities-list.result) t w) (sym c.as-bytes.ensures.value)
+    c.check_text-verdict.ensures.only w
+    (subst (λ (t : List ℕ). Verdict spellings (take (c.count-count.result - 0) c.arities-list.result) t w) (sym c.as_bytes.ensures.value)
     (subst (λ (arities : List ℕ). Verdict spellings arities c.args.text.now w) (sym list) fits)))

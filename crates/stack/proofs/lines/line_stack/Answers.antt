@@ -13,8 +13,8 @@ returns c =
     let y = c.args.parents.now in
     let z = c.args.codes.now in
     let list = c.args.entries.now in
-    let tree = c.in-ok-check-tree.ensures in
-    let over = c.in-ok-check-dialect.ensures in
+    let tree = c.in_ok-check_tree.ensures in
+    let over = c.in_ok-check_dialect.ensures in
     let count =
     count_below line_operations x y z c.args.floor list c.new.result c.new-floor.result c.new.ensures.words
     c.new-floor.ensures.below in
@@ -29,10 +29,10 @@ returns c =
       laws = stack_laws line_operations x y z c.args.floor list line_laws tree.verdict dialect;
     }
 
-pub returns-in-err-check-tree : goal.returns-in-err-check-tree
-returns-in-err-check-tree c =
-    let exit = err_from_is_err_and c.from-residual.result c.from-residual.ensures.1 in
-    let tree = c.in-err-check-tree.ensures in
+pub returns-in_err-check_tree : goal.returns-in_err-check_tree
+returns-in_err-check_tree c =
+    let exit = err_from_is_err_and c.from_residual.result c.from_residual.ensures.1 in
+    let tree = c.in_err-check_tree.ensures in
     rw (exit.1, exit.2)
     record {
       verdict = tree.verdict;
@@ -41,19 +41,19 @@ returns-in-err-check-tree c =
       laws = tt;
     }
 
-pub returns-in-err-check-dialect : goal.returns-in-err-check-dialect
-returns-in-err-check-dialect c =
+pub returns-in_err-check_dialect : goal.returns-in_err-check_dialect
+returns-in_err-check_dialect c =
     let exit =
-    err_from_is_err_and c.from-residual-in-err-check-dialect.result c.from-residual-in-err-check-dialect.ensures.1 in
+    err_from_is_err_and c.from_residual-in_err-check_dialect.result c.from_residual-in_err-check_dialect.ensures.1 in
     let list = c.args.entries.now in
-    let tree = c.in-ok-check-tree.ensures in
-    let over = c.in-err-check-dialect.ensures in
+    let tree = c.in_ok-check_tree.ensures in
+    let over = c.in_err-check_dialect.ensures in
     let count =
     count_below line_operations c.args.arities.now c.args.parents.now c.args.codes.now
     c.args.floor list c.new.result c.new-floor.result c.new.ensures.words c.new-floor.ensures.below in
     rw (exit.1, exit.2)
     record {
-      verdict = (tree.verdict, subst (λ (n : ℕ). NoDialect n list c.in-err-check-dialect.field-0.0) count over.verdict);
+      verdict = (tree.verdict, subst (λ (n : ℕ). NoDialect n list c.in_err-check_dialect.field-0.0) count over.verdict);
       only = λ f h. ap Err (dialect_refused line_operations _ _ _ list _ tree.only _ count _ over.only f h);
       words = tt;
       laws = tt;

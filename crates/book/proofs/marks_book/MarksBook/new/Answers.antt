@@ -3,5 +3,5 @@ use Rattle.book.specs.Laws.{Lawful}
 use Rattle.scale.specs.Degrees.{mark_operations}
 use Rattle.book.proofs.marks_book.MarksBook.new.Goals as goal
 
-pub invariant-of-result : goal.invariant-of-result
-invariant-of-result c = (∣ subst (Lawful mark_operations) (sym c.new.ensures) c.requires.lawful ∣₁, tt)
+pub invariant_of-result : goal.invariant_of-result
+invariant_of-result c = record { lawful = ∣ subst (Lawful mark_operations) (sym c.new.ensures) c.requires.lawful ∣₁ }
