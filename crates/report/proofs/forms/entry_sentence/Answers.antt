@@ -20,8 +20,8 @@ pub returns-in-Spelling : goal.returns-in-Spelling
 returns-in-Spelling c =
     told string_bytes (entry_sentence c.args.bytes.now c.args.i) _ _ _ c.in-Spelling.is c.format-in-Spelling.ensures.ok
 
-pub returns-in-ok-spelling : goal.returns-in-ok-spelling
-returns-in-ok-spelling c =
+pub returns-in_ok-spelling-in-Repeated : goal.returns-in_ok-spelling-in-Repeated
+returns-in_ok-spelling-in-Repeated c =
     let j = c.in-Repeated.j in
     told string_bytes (entry_sentence c.args.bytes.now c.args.i) _ _ (Repeated j) c.in-Repeated.is
-    (told string_bytes (repeated_sentence c.args.i j) _ _ _ (sym c.in-ok-spelling.ensures) c.format-in-Repeated.ensures.ok)
+    (told string_bytes (repeated_sentence c.args.i j) _ _ _ (sym c.in_ok-spelling-in-Repeated.ensures) c.format-in-Repeated.ensures.ok)

@@ -6,9 +6,9 @@ use Rattle.stack.proofs.any.layered_likeness.Goals as goal
 
 pub returns : goal.returns
 returns g c =
-    let S = g.Degree.Scale.operations in
+    let S = g.V.Degree.Scale.operations in
     let list = c.args.entries.now in
-    let over = c.in-ok-check-dialect.ensures in
+    let over = c.in_ok-check_dialect.ensures in
     let count = ap (λ v. (g.V.Vocabulary.model v).count) c.new-floor.ensures.below in
     let words =
     layered_words S g.V.Vocabulary.model c.args.below c.args.floor list c.new-floor.result
