@@ -4,8 +4,8 @@ ghost use Rattle.layout.specs.Places.{count_of};
 ghost use Rattle.std.specs.Option.{MatchOption};
 ghost use Rattle.std.specs.Result.{MatchResult};
 
-use crate::degrees::{degree_at, likeness};
 use crate::causes::LawFault;
+use crate::degrees::{degree_at, likeness};
 use layout::Layout;
 use scale::{Scale, at_most};
 

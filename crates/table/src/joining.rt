@@ -3,9 +3,9 @@ ghost use Rattle.table.specs.Joining.{Sides, Sound};
 ghost use Rattle.table.specs.Sheets.{sheet_of};
 ghost use Rattle.unification.specs.Sheets.{IsCoherent};
 
+use crate::causes::Unequal;
 use crate::closing::{find_apart, find_unequal, merge};
 use crate::equations::Equations;
-use crate::causes::Unequal;
 use crate::numbers::Numbers;
 use crate::rows::Rows;
 

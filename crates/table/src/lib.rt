@@ -1,10 +1,10 @@
 // The plain table of a sheet: its rows and equations, and for each row the number of its class. It knows no words and no degrees.
 #![tactic(auto)]
 
+mod causes;
 mod closing;
 mod deepening;
 mod equations;
-mod causes;
 mod joining;
 mod numbers;
 mod row;
@@ -12,8 +12,8 @@ mod rows;
 mod table;
 mod verdicts;
 
-pub use equations::Equation;
 pub use causes::{JoinFault, RowFault, Unequal};
+pub use equations::Equation;
 pub use numbers::Numbers;
 pub use row::Row;
 pub use table::Table;

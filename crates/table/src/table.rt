@@ -10,10 +10,10 @@ ghost use Rattle.unification.specs.Sheets.{At, Fits, IsCoherent, appended, equat
 ghost use Rattle.unification.specs.Tables.{Represents};
 ghost use Rattle.std.proofs.Math.Option.{some};
 
+use crate::causes::{JoinFault, RowFault};
 use crate::closing::merge;
 use crate::deepening::deepen;
 use crate::equations::{Equation, Equations};
-use crate::causes::{JoinFault, RowFault};
 use crate::joining::close;
 use crate::numbers::Numbers;
 use crate::row::Row;

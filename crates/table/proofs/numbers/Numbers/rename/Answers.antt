@@ -25,5 +25,5 @@ invariant_of-self c =
     record {
       size =
           ap length (whole (renamed c.args.gone c.args.keep) c.args.self.now.of c.loop-x.x-items c.loop-x.x-index (omega arith) c.loop-x.invariant)
-              ∙ length-map c.args.self.now.of (renamed c.args.gone c.args.keep) ∙ c.args.self.now.size;
+          ∙ length-map c.args.self.now.of (renamed c.args.gone c.args.keep) ∙ c.args.self.now.size;
     }

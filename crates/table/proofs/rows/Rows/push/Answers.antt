@@ -20,5 +20,5 @@ invariant_of-self c =
       slots = slots_pushed t.items t.len c.args.row h t.slots c.requires.slots;
       lower =
           subst Lower (sym (rows_pushed t.items t.len c.args.row h)) (lower_pushed (rows_of t.items t.len) (row_of c.args.row) t.lower
-              (λ i k. subst (λ (z : ℕ). get_or (args_of (some (row_of c.args.row))) i 0 < z) (sym n) (c.requires.lower i k)));
+          (λ i k. subst (λ (z : ℕ). get_or (args_of (some (row_of c.args.row))) i 0 < z) (sym n) (c.requires.lower i k)));
     }

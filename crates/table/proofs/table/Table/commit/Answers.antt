@@ -23,9 +23,9 @@ invariant_of-self c =
     let k = c.args.classes.now.of in
     let d = c.args.depths.now.of in
     let f =
-        facts_moved (equated (sheet_of t.rows t.equations) (equation_of c.args.e)) (sheet_of t.rows c.push.new.self) t.rows.len t.rows.len k k d d
-        (put_down t c.args.e c.push.new.self c.push.ensures.items) refl refl refl
-        (facts_after t c.args.e c.requires.between k c.requires.represents d c.requires.deep) in
+    facts_moved (equated (sheet_of t.rows t.equations) (equation_of c.args.e)) (sheet_of t.rows c.push.new.self) t.rows.len t.rows.len k k d d
+    (put_down t c.args.e c.push.new.self c.push.ensures.items) refl refl refl
+    (facts_after t c.args.e c.requires.between k c.requires.represents d c.requires.deep) in
     record {
       coherent = f.0;
       represents = f.1.0;

@@ -18,14 +18,14 @@ invariant_of-self c =
     let k = t.classes.size in
     let l = t.depths.size in
     let f =
-        facts_moved (appended s (row_of c.args.row)) (sheet_of c.push.new.self t.equations) (length s.rows + 1) c.push.new.self.len _ c.put.new.self.of _ c.put-2.new.self.of
-        (ap (λ (z : List Row). record { rows = z; equations = s.equations }) c.push.ensures.rows)
-        (c.push.ensures.len ∙ ap (λ (z : ℕ). z + 1) e)
-        (c.put.ensures ∙ ap (λ (z : ℕ). set t.classes.of z z) n)
-        (c.put-2.ensures ∙ ap (λ (z : ℕ). set t.depths.of z c.args.depth) n)
-        (facts_grown s t.classes.of t.depths.of
-        (subst (λ (z : ℕ). Facts s z t.classes.of t.depths.of) e (t.coherent, (t.represents, (t.falls, (t.within, (t.shallow, tt))))))
-        (row_of c.args.row) c.requires.fits (omega arith) (omega arith) c.args.depth c.requires.above (subst (λ (z : ℕ). c.args.depth ≤ z + 1) e c.requires.shallow)) in
+    facts_moved (appended s (row_of c.args.row)) (sheet_of c.push.new.self t.equations) (length s.rows + 1) c.push.new.self.len _ c.put.new.self.of _ c.put-2.new.self.of
+    (ap (λ (z : List Row). record { rows = z; equations = s.equations }) c.push.ensures.rows)
+    (c.push.ensures.len ∙ ap (λ (z : ℕ). z + 1) e)
+    (c.put.ensures ∙ ap (λ (z : ℕ). set t.classes.of z z) n)
+    (c.put-2.ensures ∙ ap (λ (z : ℕ). set t.depths.of z c.args.depth) n)
+    (facts_grown s t.classes.of t.depths.of
+    (subst (λ (z : ℕ). Facts s z t.classes.of t.depths.of) e (t.coherent, (t.represents, (t.falls, (t.within, (t.shallow, tt))))))
+    (row_of c.args.row) c.requires.fits (omega arith) (omega arith) c.args.depth c.requires.above (subst (λ (z : ℕ). c.args.depth ≤ z + 1) e c.requires.shallow)) in
     record {
       coherent = f.0;
       represents = f.1.0;
