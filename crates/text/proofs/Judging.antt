@@ -1,7 +1,7 @@
 -- Exactly one verdict fits a text.
 use Rattle.std.proofs.Common.{◌≡◌, ℕ, ◌+◌, ◌<◌, ◌≤◌, List, [], ◌∷◌, ◌++◌, length, get_or, take, drop, Ok, Err, Option, Result, sym, refl, ap, ◌∙◌, subst, inl, inr, append_assoc, arith, length-append, take-append-drop, MatchResult}
 use Rattle.fault.proofs.Firsts.{first1_only, first1_none}
-use Rattle.std.specs.List.{AllByRecursion as All}
+use Rattle.std.specs.List.{AllByRecursion}
 use Rattle.std.proofs.ByRecursion.{All-weaker}
 use Rattle.std.proofs.lemmas.List.{take-take}
 use Rattle.std.proofs.lemmas.Bool.{cases_order}
@@ -42,7 +42,7 @@ stops_only text p q a b =
     ]
 
 -- the first word of which P fails is one
-front_only : (P : Occurrence → Type 0) (a b x y : List Occurrence) (v w : Occurrence) → a ++ (v ∷ x) ≡ b ++ (w ∷ y) → All P a → All P b → (P v → ⊥) → (P w → ⊥) → v ≡ w
+front_only : (P : Occurrence → Type 0) (a b x y : List Occurrence) (v w : Occurrence) → a ++ (v ∷ x) ≡ b ++ (w ∷ y) → AllByRecursion P a → AllByRecursion P b → (P v → ⊥) → (P w → ⊥) → v ≡ w
 front_only P [] [] x y v w e g h p q = cc
 front_only P [] (c ∷ b) x y v w e g h p q = let same : v ≡ c = cc in absurd (p (subst P (sym same) h.0))
 front_only P (c ∷ a) [] x y v w e g h p q = let same : c ≡ w = cc in absurd (q (subst P same g.0))
@@ -51,8 +51,8 @@ front_only P (c ∷ a) (d ∷ b) x y v w e g h p q = let rest : a ++ (v ∷ x) �
 first_only : (P : Occurrence → Type 0) (ws : List Occurrence) (v w : Occurrence) → FirstOf P ws v → FirstOf P ws w → v ≡ w
 first_only P ws v w a b = front_only P a.before b.before a.behind b.behind v w (sym a.split ∙ b.split) a.good b.good a.fails b.fails
 
-first_none : (P : Occurrence → Type 0) (ws : List Occurrence) (w : Occurrence) → All P ws → FirstOf P ws w → ⊥
-first_none P ws w all a = a.fails (all_right P a.before (w ∷ a.behind) (subst (All P) a.split all)).0
+first_none : (P : Occurrence → Type 0) (ws : List Occurrence) (w : Occurrence) → AllByRecursion P ws → FirstOf P ws w → ⊥
+first_none P ws w all a = a.fails (all_right P a.before (w ∷ a.behind) (subst (AllByRecursion P) a.split all)).0
 
 module _ (P : Occurrence → Type 0) (text : List ℕ) where
   first_word_only : (p q : ℕ) → FirstWord P text p → FirstWord P text q → p ≡ q
@@ -64,7 +64,7 @@ module _ (P : Occurrence → Type 0) (text : List ℕ) where
   first_word_none : (p : ℕ) → AllWords P text → FirstWord P text p → ⊥
   first_word_none p a b =
       let same = one_phrase text a.phrase b.phrase a.sound b.sound a.written b.written in
-      first_none P (words 0 b.phrase) b.word (subst (λ (x : Phrase). All P (words 0 x)) same a.all) b.first
+      first_none P (words 0 b.phrase) b.word (subst (λ (x : Phrase). AllByRecursion P (words 0 x)) same a.all) b.first
 
   is_text : (p : ℕ) → FirstWord P text p → IsText text
   is_text p a = record { phrase = a.phrase; sound = a.sound; written = a.written }
@@ -136,7 +136,7 @@ module _ (spellings : ℕ → Option (List ℕ)) (arities : List ℕ) (text : Li
   admitted t m w s h (WrongArguments p) r =
       first_word_none (Fitting spellings arities) text p (record { phrase = w.phrase; sound = w.sound; written = w.written; all = fit spellings arities w.phrase 0 t m w.means }) r.3
 
-  pub accepted_by : Sized text → AllShallow text → (p : Phrase) → Sound p → bytes p ≡ text → All (Sure spellings arities) (words 0 p) → Accepted spellings arities text
+  pub accepted_by : Sized text → AllShallow text → (p : Phrase) → Sound p → bytes p ≡ text → AllByRecursion (Sure spellings arities) (words 0 p) → Accepted spellings arities text
   accepted_by s h p sound written all =
       let m = meant spellings arities p 0 sound all in
       record { sized = s; shallow = h; term = m.term; reads = reads_by spellings arities text p sound written all m }
@@ -173,7 +173,7 @@ module _ (spellings : ℕ → Option (List ℕ)) (arities : List ℕ) (text : Li
   unknown_fault i f e same s h t =
       subst (Refused spellings arities text) (sym (same ∙ t.is)) (s, h, first_told (Known spellings arities) text i.phrase i.sound i.written t.word t.first)
 
-  pub arguments_fault : (i : IsText text) (f : TextFault) → Sized text → AllShallow text → All (Known spellings arities) (words 0 i.phrase) → Told (Fitting spellings arities) (words 0 i.phrase) WrongArguments f → Refused spellings arities text f
+  pub arguments_fault : (i : IsText text) (f : TextFault) → Sized text → AllShallow text → AllByRecursion (Known spellings arities) (words 0 i.phrase) → Told (Fitting spellings arities) (words 0 i.phrase) WrongArguments f → Refused spellings arities text f
   arguments_fault i f s h known t =
       let all : AllWords (Known spellings arities) text = record { phrase = i.phrase; sound = i.sound; written = i.written; all = known } in
       subst (Refused spellings arities text) (sym t.is) (s, h, all, first_told (Fitting spellings arities) text i.phrase i.sound i.written t.word t.first)

@@ -2,7 +2,7 @@
 use Rattle.std.proofs.Common.{◌≡◌, ℕ, ◌<◌, ◌≤◌, Bool, true, false, eqb, List, [], ◌∷◌, ◌++◌, length, get_or, drop, MatchBool, Option, sym, refl, ap, ◌∙◌, subst, append_assoc, append-nil, arith, eqb-true}
 use borrow.Author.Tests.{eqb-false}
 use Rattle.std.proofs.ByRecursion.{All-push, All-weaker}
-use Rattle.std.specs.List.{AllByRecursion as All}
+use Rattle.std.specs.List.{AllByRecursion}
 use Rattle.vocabulary.specs.Spellings.{Spells, IsLexicon}
 use Rattle.text.specs.declared.words.WordAt.{WordAt}
 use Rattle.text.specs.Phrases.{Phrase, count, bytes, Sound}
@@ -19,7 +19,7 @@ pub record Passed (P : Occurrence → Type 0) (text : List ℕ) (at : ℕ) (ws :
   pub before : List Occurrence
   pub others : List Occurrence
   pub split : ws ≡ before ++ others
-  pub good : All P before
+  pub good : AllByRecursion P before
   pub left : Remains (drop at text) at others
 
 pub passed_none : (P : Occurrence → Type 0) (text : List ℕ) (p : Phrase) → Sound p → bytes p ≡ text → Passed P text 0 (words 0 p)
@@ -53,9 +53,9 @@ module _ (P : Occurrence → Type 0) (text : List ℕ) (at : ℕ) (ws : List Occ
     fails = fails;
   }
 
-pub passed_all : (P : Occurrence → Type 0) (text : List ℕ) (at : ℕ) (ws : List Occurrence) → Passed P text at ws → ((vs : List Occurrence) → Remains (drop at text) at vs → vs ≡ []) → All P ws
+pub passed_all : (P : Occurrence → Type 0) (text : List ℕ) (at : ℕ) (ws : List Occurrence) → Passed P text at ws → ((vs : List Occurrence) → Remains (drop at text) at vs → vs ≡ []) → AllByRecursion P ws
 passed_all P text at ws passed none_left =
-    subst (All P) (sym (passed.split ∙ ap (λ l. passed.before ++ l) (none_left passed.others passed.left) ∙ append-nil passed.before)) passed.good
+    subst (AllByRecursion P) (sym (passed.split ∙ ap (λ l. passed.before ++ l) (none_left passed.others passed.left) ∙ append-nil passed.before)) passed.good
 
 module _ (spellings : ℕ → Option (List ℕ)) (arities : List ℕ) where
   pub arity_found : (s : List ℕ) (w a : ℕ) → IsLexicon spellings → Spells spellings w s → w < length arities → get_or arities w 0 ≡ a → Arity spellings arities s a

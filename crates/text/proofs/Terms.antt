@@ -1,6 +1,6 @@
 -- From the words of a phrase to the term that it means, and back.
 use Rattle.std.proofs.Common.{◌≡◌, ℕ, suc, ◌+◌, List, [], ◌∷◌, ◌++◌, length, get_or, Some, Option, sym, refl, ap, ◌∙◌, subst}
-use Rattle.std.specs.List.{AllByRecursion as All}
+use Rattle.std.specs.List.{AllByRecursion}
 use Rattle.std.proofs.ByRecursion.{All-append}
 use Rattle.unification.specs.Terms.{Term, Terms, var, app, nil, cons, size, Formed, AllFormed}
 use Rattle.vocabulary.specs.Spellings.{IsSpelling, Spells, IsLexicon}
@@ -12,11 +12,11 @@ use Rattle.text.specs.Writings.{characters, spelled, all_spelled, write, Spelled
 use Rattle.text.proofs.Unique.{one_phrase}
 
 module _ {X : Type 0} (P : X → Type 0) where
-  pub all_left : (xs ys : List X) → All P (xs ++ ys) → All P xs
+  pub all_left : (xs ys : List X) → AllByRecursion P (xs ++ ys) → AllByRecursion P xs
   all_left [] ys a = tt
   all_left (x ∷ xs) ys a = (a.0, all_left xs ys a.1)
 
-  pub all_right : (xs ys : List X) → All P (xs ++ ys) → All P ys
+  pub all_right : (xs ys : List X) → AllByRecursion P (xs ++ ys) → AllByRecursion P ys
   all_right [] ys a = a
   all_right (x ∷ xs) ys a = all_right xs ys a.1
 
@@ -37,7 +37,7 @@ module _ (spellings : ℕ → Option (List ℕ)) (arities : List ℕ) where
     pub means : AllMean spellings ps terms
 
   mutual
-    pub meant : (p : Phrase) (i : ℕ) → Sound p → All (Sure spellings arities) (words i p) → Meant p
+    pub meant : (p : Phrase) (i : ℕ) → Sound p → AllByRecursion (Sure spellings arities) (words i p) → Meant p
     meant (variable n) i s a = record { term = var n; formed = s; means = refl }
     meant (word w ps) i s a =
         let fit = a.0.0 in
@@ -48,7 +48,7 @@ module _ (spellings : ℕ → Option (List ℕ)) (arities : List ℕ) where
           means = (fit.spells, m.means);
         }
 
-    pub all_meant : (ps : Phrases) (i : ℕ) → AllSound ps → All (Sure spellings arities) (words_among i ps) → AllMeant ps
+    pub all_meant : (ps : Phrases) (i : ℕ) → AllSound ps → AllByRecursion (Sure spellings arities) (words_among i ps) → AllMeant ps
     all_meant none i s a = record { terms = nil; many = refl; formed = tt; means = tt }
     all_meant (more p ps) i s a =
         let S = Sure spellings arities in
@@ -60,7 +60,7 @@ module _ (spellings : ℕ → Option (List ℕ)) (arities : List ℕ) where
 
   -- it means no other term
   mutual
-    pub same_term : (p : Phrase) (i : ℕ) (t u : Term) → All (Sure spellings arities) (words i p) → Means spellings p t → Means spellings p u → t ≡ u
+    pub same_term : (p : Phrase) (i : ℕ) (t u : Term) → AllByRecursion (Sure spellings arities) (words i p) → Means spellings p t → Means spellings p u → t ≡ u
     same_term (variable n) i (var x) (var y) a m k = ap var (sym m ∙ k)
     same_term (variable n) i (var x) (app g us) a m k = absurd k
     same_term (variable n) i (app f ts) u a m k = absurd m
@@ -71,7 +71,7 @@ module _ (spellings : ℕ → Option (List ℕ)) (arities : List ℕ) where
         let es = same_terms ps (i + length w) ts us a.1 m.1 k.1 in
         λ j. app (e j) (es j)
 
-    same_terms : (ps : Phrases) (i : ℕ) (ts us : Terms) → All (Sure spellings arities) (words_among i ps) → AllMean spellings ps ts → AllMean spellings ps us → ts ≡ us
+    same_terms : (ps : Phrases) (i : ℕ) (ts us : Terms) → AllByRecursion (Sure spellings arities) (words_among i ps) → AllMean spellings ps ts → AllMean spellings ps us → ts ≡ us
     same_terms none i nil nil a m k = refl
     same_terms none i nil (cons u us) a m k = absurd k
     same_terms none i (cons t ts) us a m k = absurd m
@@ -85,7 +85,7 @@ module _ (spellings : ℕ → Option (List ℕ)) (arities : List ℕ) where
         let es = same_terms ps (i + 1 + length (bytes p)) ts us (all_right S front back a) m.1 k.1 in
         λ j. cons (e j) (es j)
 
-  pub reads_by : (text : List ℕ) (p : Phrase) → Sound p → bytes p ≡ text → All (Sure spellings arities) (words 0 p) → (m : Meant p) → Reads spellings arities text m.term
+  pub reads_by : (text : List ℕ) (p : Phrase) → Sound p → bytes p ≡ text → AllByRecursion (Sure spellings arities) (words 0 p) → (m : Meant p) → Reads spellings arities text m.term
   reads_by text p s e a m = record {
     formed = m.formed;
     writes = record { phrase = p; sound = s; written = e; means = m.means };
@@ -102,13 +102,13 @@ module _ (spellings : ℕ → Option (List ℕ)) (arities : List ℕ) where
   many_mean (more p ps) (cons t ts) m = ap suc (many_mean ps ts m.1)
 
   mutual
-    pub fit : (p : Phrase) (i : ℕ) (t : Term) → Formed (length arities) arity t → Means spellings p t → All (Fitting spellings arities) (words i p)
+    pub fit : (p : Phrase) (i : ℕ) (t : Term) → Formed (length arities) arity t → Means spellings p t → AllByRecursion (Fitting spellings arities) (words i p)
     fit (variable n) i t f m = tt
     fit (word w ps) i (var x) f m = absurd m
     fit (word w ps) i (app g ts) f m =
         (record { number = g; spells = m.0; has = f.0; takes = sym f.1 ∙ many_mean ps ts m.1 }, all_fit ps (i + length w) ts f.2 m.1)
 
-    all_fit : (ps : Phrases) (i : ℕ) (ts : Terms) → AllFormed (length arities) arity ts → AllMean spellings ps ts → All (Fitting spellings arities) (words_among i ps)
+    all_fit : (ps : Phrases) (i : ℕ) (ts : Terms) → AllFormed (length arities) arity ts → AllMean spellings ps ts → AllByRecursion (Fitting spellings arities) (words_among i ps)
     all_fit none i ts f m = tt
     all_fit (more p ps) i nil f m = absurd m
     all_fit (more p ps) i (cons t ts) f m =

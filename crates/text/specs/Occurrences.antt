@@ -1,5 +1,5 @@
 use Rattle.std.specs.Prelude.{◌≡◌, ℕ, ◌+◌, List, [], ◌∷◌, ◌++◌, length}
-use Rattle.std.specs.List.{AllByRecursion as All}
+use Rattle.std.specs.List.{AllByRecursion}
 use Rattle.text.specs.Phrases.{Phrase, Phrases, variable, word, none, more, count, bytes, Sound}
 
 -- A word in a text: the place of its first byte, its characters, and how many arguments it has.
@@ -24,7 +24,7 @@ pub record FirstOf (P : Occurrence → Type 0) (ws : List Occurrence) (w : Occur
   pub before : List Occurrence
   pub behind : List Occurrence
   pub split : ws ≡ before ++ (w ∷ behind)
-  pub good : All P before
+  pub good : AllByRecursion P before
   pub fails : P w → ⊥
 
 -- P holds of every word of the text.
@@ -32,7 +32,7 @@ pub record AllWords (P : Occurrence → Type 0) (text : List ℕ) : Type 0 where
   pub phrase : Phrase
   pub sound : Sound phrase
   pub written : bytes phrase ≡ text
-  pub all : All P (words 0 phrase)
+  pub all : AllByRecursion P (words 0 phrase)
 
 -- The first word of the text of which P fails stands at place p.
 pub record FirstWord (P : Occurrence → Type 0) (text : List ℕ) (p : ℕ) : Type 0 where

@@ -1,5 +1,5 @@
 ghost use Rattle.std.specs.Prelude.{◌≡◌, ◌≤◌, List, length, MatchBool, MatchOption, MatchResult};
-ghost use Rattle.std.specs.List.{AllByRecursion as All};
+ghost use Rattle.std.specs.List.{AllByRecursion};
 ghost use Rattle.text.specs.Limits.{longest_text};
 ghost use Rattle.text.specs.Lookups.{Arity, Asked, Granted, Lacking, Told, cause};
 ghost use Rattle.text.specs.Occurrences.{Occurrence, words};
@@ -61,7 +61,7 @@ pub fn check_words<L: Lexicon>(
 ) -> Result<(), TextFault>
     requires { length text.now ≤ longest_text }
     ensures { (p : Phrase) → Sound p → bytes p ≡ text.now → MatchResult result
-        (λ _. All (Granted (L.Lexicon.spellings lexicon.now) arities.now demand) (words 0 p))
+        (λ _. AllByRecursion (Granted (L.Lexicon.spellings lexicon.now) arities.now demand) (words 0 p))
         (Told (Asked (L.Lexicon.spellings lexicon.now) arities.now demand) (words 0 p) (cause demand)) }
 {
     let mut at = 0;
