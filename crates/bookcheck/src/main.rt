@@ -4,6 +4,7 @@
 use anyhow::anyhow;
 use report::{Report, report_above, report_on, report_text};
 use std::alloc::{AllocError, Global};
+use std::process::ExitCode;
 use std::{env, fs};
 
 const HELP: &str = "\
@@ -97,30 +98,30 @@ fn told(heap: Global, bytes: &[u8], request: &Request) -> Result<Report, AllocEr
     }
 }
 
-fn main(rt: HostRuntime) -> anyhow::Result<()> {
+fn main(rt: HostRuntime) -> anyhow::Result<ExitCode> {
     let request = match asked(&rt) {
         Ok(request) => request,
         Err(error) => {
             eprintln!(rt; "bookcheck: {error}; see bookcheck --help")?;
-            return Err(error);
+            return Ok(ExitCode::FAILURE);
         }
     };
     if request.help {
         print!(rt; "{HELP}")?;
-        return Ok(());
+        return Ok(ExitCode::SUCCESS);
     }
     let bytes = match fs::read(&rt, request.path.as_str()) {
         Ok(bytes) => bytes,
         Err(error) => {
             eprintln!(rt; "bookcheck: {} will not open: {error}", request.path)?;
-            return Err(anyhow!("the file will not open"));
+            return Ok(ExitCode::FAILURE);
         }
     };
     let report = told(rt.alloc(), bytes.as_slice(), &request)?;
     print!(rt; "{}", report.text)?;
     if report.accepted {
-        Ok(())
+        Ok(ExitCode::SUCCESS)
     } else {
-        Err(anyhow!("refused"))
+        Ok(ExitCode::FAILURE)
     }
 }
