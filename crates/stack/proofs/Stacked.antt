@@ -4,7 +4,7 @@ use Rattle.scale.specs.Scales.{Operations, IsScale}
 use Rattle.vocabulary.specs.Words.{Words, IsVocabulary}
 use Rattle.layers.specs.Dialects.{IsDialect, listed, spoken}
 use Rattle.layers.specs.Floors.{floored}
-use Rattle.layers.specs.Tables.{tabled as entriesOf}
+use Rattle.layers.specs.Tables.{tabled as entries_of}
 use Rattle.layers.specs.Verdicts.{Verdict as DialectVerdict, Refused as NoDialect}
 use Rattle.layers.specs.declared.dialect.Dialect.{Dialect}
 use Rattle.layers.specs.declared.causes.DialectFault.{DialectFault}
@@ -13,7 +13,7 @@ use Rattle.layers.proofs.Floored.{floor_laws}
 use Rattle.layers.proofs.Spoken.{dialect_laws}
 use Rattle.tree.specs.Families.{family, IsTree}
 use Rattle.tree.specs.Paths.{tree_words}
-use Rattle.tree.specs.Tables.{tabled as familyOf}
+use Rattle.tree.specs.Tables.{tabled as family_of}
 use Rattle.tree.specs.Verdicts.{Verdict as TreeVerdict}
 use Rattle.tree.specs.declared.causes.TreeFault.{TreeFault}
 use Rattle.tree.specs.declared.tree.Tree.{Tree}
@@ -29,8 +29,8 @@ said V W f g r same e = e ∙ (λ i. (same i).likeness f g)
 
 -- A dialect over a floor over a vocabulary says what these are made of.
 pub layered_words : {D V : Type 0} (S : Operations D) (model : V → Words D) (below : V) (floor : D) (list : List ℕ)
-    (f : Floor V D) (d : Dialect (Floor V D) D) → f.below ≡ below → f.degree ≡ floor → d.below ≡ f → entriesOf d.table ≡ listed list
-    → spoken S (entriesOf d.table) (floored S d.below.degree (model d.below.below)) ≡ layered S (model below) floor list
+    (f : Floor V D) (d : Dialect (Floor V D) D) → f.below ≡ below → f.degree ≡ floor → d.below ≡ f → entries_of d.table ≡ listed list
+    → spoken S (entries_of d.table) (floored S d.below.degree (model d.below.below)) ≡ layered S (model below) floor list
 layered_words {D} {V} S model below floor list f d on_below at-floor on-floor entries =
     let degree = ap (λ (u : Floor V D). u.degree) on-floor ∙ at-floor in
     let bottom = ap (λ (u : Floor V D). u.below) on-floor ∙ on_below in
@@ -43,15 +43,15 @@ module _ {D : Type 0} (S : Operations D) (x y z : List ℕ) (floor : D) (list : 
       (floor_laws S L floor (tree_words S (family x y z)) (tree_laws S L (family x y z) (tree_family S x y z tree)))
       dialect.counted
 
-  module _ (t : Tree D) (f : Floor (Tree D) D) (of_Tree : familyOf t.table ≡ family x y z) (on-tree : f.below ≡ t) where
-    pub count_below : (familyOf f.below.table).count ≡ length x
-    count_below = ap (λ (u : Tree D). (familyOf u.table).count) on-tree ∙ (λ i. (of_Tree i).count)
+  module _ (t : Tree D) (f : Floor (Tree D) D) (of_Tree : family_of t.table ≡ family x y z) (on-tree : f.below ≡ t) where
+    pub count_below : (family_of f.below.table).count ≡ length x
+    count_below = ap (λ (u : Tree D). (family_of u.table).count) on-tree ∙ (λ i. (of_Tree i).count)
 
-    pub stack_words_lem : (d : Dialect (Floor (Tree D) D) D) → f.degree ≡ floor → d.below ≡ f → entriesOf d.table ≡ listed list
-        → spoken S (entriesOf d.table) (floored S d.below.degree (tree_words S (familyOf d.below.below.table)))
+    pub stack_words_lem : (d : Dialect (Floor (Tree D) D) D) → f.degree ≡ floor → d.below ≡ f → entries_of d.table ≡ listed list
+        → spoken S (entries_of d.table) (floored S d.below.degree (tree_words S (family_of d.below.below.table)))
         ≡ stack_words S x y z floor list
     stack_words_lem d at-floor on-floor entries =
-        layered_words S (λ (u : Tree D). tree_words S (familyOf u.table)) t floor list f d on-tree at-floor on-floor entries
+        layered_words S (λ (u : Tree D). tree_words S (family_of u.table)) t floor list f d on-tree at-floor on-floor entries
         ∙ (λ i. layered S (tree_words S (of_Tree i)) floor list)
 
 -- Where the check of a dialect can only say yes, nothing is refused; where it can only refuse, nothing else is.

@@ -1,13 +1,13 @@
 ghost use Rattle.layers.specs.Dialects.{IsDialect, spoken};
 ghost use Rattle.layers.specs.Floors.{floored};
-ghost use Rattle.layers.specs.Tables.{tabled as dialectTabled};
+ghost use Rattle.layers.specs.Tables.{tabled as dialect_tabled};
 ghost use Rattle.scale.specs.Degrees.{line_operations};
 ghost use Rattle.stack.specs.Stacks.{Refused, stack_words};
 ghost use Rattle.stack.specs.declared.causes.StackFault.{StackFault};
 ghost use Rattle.std.specs.Prelude.{◌≡◌, length, IfOk, Err, MatchResult, OnOk};
 ghost use Rattle.tree.specs.Families.{IsTree};
 ghost use Rattle.tree.specs.Paths.{tree_words};
-ghost use Rattle.tree.specs.Tables.{tabled as treeTabled};
+ghost use Rattle.tree.specs.Tables.{tabled as tree_tabled};
 ghost use Rattle.vocabulary.specs.Words.{IsVocabulary};
 
 use crate::causes::StackFault;
@@ -28,7 +28,7 @@ pub fn line_stack(
         (Refused line_operations arities.now parents.now codes.now entries.now) }
     ensures only { (f : StackFault) → Refused line_operations arities.now parents.now codes.now entries.now f → result ≡ Err f }
     ensures words { IfOk result (λ d.
-        spoken line_operations (dialectTabled d.table) (floored line_operations d.below.degree (tree_words line_operations (treeTabled d.below.below.table)))
+        spoken line_operations (dialect_tabled d.table) (floored line_operations d.below.degree (tree_words line_operations (tree_tabled d.below.below.table)))
         ≡ stack_words line_operations arities.now parents.now codes.now floor entries.now) }
     ensures laws { OnOk result (IsVocabulary line_operations
         (stack_words line_operations arities.now parents.now codes.now floor entries.now)) }
