@@ -14,7 +14,8 @@ use Rattle.text.specs.Texts.{IsText, Begins, StopsAt}
 use Rattle.text.specs.Brackets.{Shallow}
 use Rattle.text.specs.Occurrences.{Occurrence, words, FirstOf, AllWords, FirstWord}
 use Rattle.text.specs.Meanings.{Known, Fitting}
-use Rattle.text.specs.Writings.{Writes, Reads}
+use Rattle.vocabulary.specs.Spellings.{IsLexicon}
+use Rattle.text.specs.Writings.{Spelled, write, Writes, Reads}
 use Rattle.text.specs.Lookups.{Sure, Told}
 use Rattle.text.specs.Verdicts.{Sized, AllShallow, Accepted, Refused, Verdict, Judged}
 use Rattle.text.proofs.Unique.{one_phrase}
@@ -141,7 +142,14 @@ module _ (spellings : ℕ → Option (List ℕ)) (arities : List ℕ) (text : Li
       let m = meant spellings arities p 0 sound all in
       record { sized = s; shallow = h; term = m.term; reads = reads_by spellings arities text p sound written all m }
 
-  only_one : (r v : Result (Unit {0}) TextFault) → Verdict spellings arities text r → Verdict spellings arities text v → v ≡ r
+  -- what a term is written as, by a lawful lexicon, is read as that term
+  pub reads_own : IsLexicon spellings → (t : Term) → Formed (length arities) (λ f. get_or arities f 0) t → Spelled spellings t → write spellings t ≡ text → Reads spellings arities text t
+  reads_own laws t m s e =
+      let w = writes_own spellings laws (length arities) (λ f. get_or arities f 0) text t m s e in
+      let sure = All-weaker (Fitting spellings arities) (Sure spellings arities) (λ o f. (f, λ v u. laws.single v u o.spelling)) (words 0 w.phrase) (fit spellings arities w.phrase 0 t m w.means) in
+      reads_by spellings arities text w.phrase w.sound w.written sure (record { term = t; formed = m; means = w.means })
+
+  pub only_one : (r v : Result (Unit {0}) TextFault) → Verdict spellings arities text r → Verdict spellings arities text v → v ≡ r
   only_one (Ok x) (Ok y) a b = refl
   only_one (Ok x) (Err g) a b = absurd (admitted a.term a.reads.formed a.reads.writes a.sized a.shallow g b)
   only_one (Err f) (Ok y) a b = absurd (admitted b.term b.reads.formed b.reads.writes b.sized b.shallow f a)

@@ -7,11 +7,12 @@ use Rattle.fault.specs.Firsts.{Below}
 use Rattle.scale.specs.Scales.{Operations, IsScale}
 use Rattle.vocabulary.specs.Words.{Words, IsVocabulary}
 use Rattle.unification.specs.Classes.{Member}
-use Rattle.unification.specs.Closures.{Closure, IsDepth, kind, IsDegree}
+use Rattle.unification.specs.Closures.{Closure, Cycle, IsDepth, kind, Bound, IsDegree}
 use Rattle.unification.specs.Sheets.{Row, variable, composed, Equation, Sheet, At, Holds, kept, fresh, appended, equated, IsCoherent, IsSheet, IsTyped, Fits}
 use Rattle.unification.specs.Tables.{IsClosed, Represents}
 use Rattle.unification.proofs.Depths.{closure_rows}
 use Rattle.unification.proofs.Numberings.{at_hand}
+use Rattle.unification.proofs.Orderings.{closure_grows, cycle_grows}
 use Rattle.scale.proofs.Orders.{le_trans, bottom_le, le_of_eq}
 use Rattle.unification.proofs.Tables.{closed_closure}
 
@@ -44,7 +45,7 @@ depth_from {s} {depth} h k p q a =
     omega arith
 
 -- The last of a list with one more is the new one, and the others stay.
-at_last : {A : Type 0} (l : List A) (x : A) (p : ℕ) (r : A) → get_elem? (l ++ (x ∷ [])) p ≡ some r → (get_elem? l p ≡ some r) ⊎ ((p ≡ length l) × (r ≡ x))
+pub at_last : {A : Type 0} (l : List A) (x : A) (p : ℕ) (r : A) → get_elem? (l ++ (x ∷ [])) p ≡ some r → (get_elem? l p ≡ some r) ⊎ ((p ≡ length l) × (r ≡ x))
 at_last [] x zero r h = inr (refl, cc)
 at_last [] x (suc p) r h = let z : ◌≡◌ {A = ℕ} 0 1 = cc in absurd (omega arith)
 at_last (y ∷ l) x zero r h = inl h
@@ -104,12 +105,31 @@ appended_coherent {s} I r F =
     one p q x (inr a) (inl b) = absurd (new_free r F x a.1 q b)
     one p q x (inr a) (inr b) = a.0 ∙ sym b.0
 
--- A row of the first ones is the same row.
-at_kept : (l : List Row) (k p : ℕ) (r : Row) → get_elem? (take k l) p ≡ some r → get_elem? l p ≡ some r
+-- What stands at a position of the first ones stands there, and the other way round.
+pub at_kept : {A : Type 0} (l : List A) (k p : ℕ) (r : A) → get_elem? (take k l) p ≡ some r → get_elem? l p ≡ some r
 at_kept l zero p r h = let z : ◌≡◌ {A = ℕ} 0 1 = cc in absurd (omega arith)
 at_kept [] (suc k) p r h = let z : ◌≡◌ {A = ℕ} 0 1 = cc in absurd (omega arith)
 at_kept (x ∷ l) (suc k) zero r h = h
 at_kept (x ∷ l) (suc k) (suc p) r h = at_kept l k p r h
+
+pub kept_at : {A : Type 0} (l : List A) (k p : ℕ) (r : A) → p < k → get_elem? l p ≡ some r → get_elem? (take k l) p ≡ some r
+kept_at l zero p r b h = absurd (omega arith)
+kept_at [] (suc k) p r b h = h
+kept_at (x ∷ l) (suc k) zero r b h = h
+kept_at (x ∷ l) (suc k) (suc p) r b h = kept_at l k p r (omega arith) h
+
+holds_kept : (l : List Equation) (k : ℕ) (e : Equation) → Member e (take k l) → Member e l
+holds_kept l zero e m = elim m [ ]
+holds_kept [] (suc k) e m = elim m [ ]
+holds_kept (x ∷ l) (suc k) e (Memᴰ.head q) = Memᴰ.head q
+holds_kept (x ∷ l) (suc k) e (Memᴰ.tail m) = Memᴰ.tail (holds_kept l k e m)
+
+-- What is kept of a sheet puts no more rows together, and has no cycle that was not there.
+pub closure_kept : (s : Sheet) (r m : ℕ) {p q : ℕ} → Closure (kept r m s) p q → Closure s p q
+closure_kept s r m c = closure_grows (at_kept s.rows r) (holds_kept s.equations m) c
+
+pub cycle_kept : (s : Sheet) (r m : ℕ) → Cycle (kept r m s) → Cycle s
+cycle_kept s r m c = cycle_grows (at_kept s.rows r) (holds_kept s.equations m) c
 
 pub kept_coherent : {s : Sheet} → IsCoherent s → (r m : ℕ) → r ≤ length s.rows → ((e : Equation) → Holds (kept r m s) e → (e.left < r) × (e.right < r)) → IsCoherent (kept r m s)
 kept_coherent {s} I r m b w =
@@ -140,6 +160,12 @@ module _ {count : ℕ} {arity : ℕ → ℕ} where
         coherent = appended_coherent I.coherent r F;
         typed = λ p q h. elim (at_last s.rows r p q h) [ inl a ↦ I.typed p q a | inr b ↦ subst (IsTyped count arity) (sym b.1) t ];
       }
+
+-- A degree that the likenesses of a sheet's words are at or above is one for what is kept of it.
+module _ {D : Type 0} (S : Operations D) (V : Words D) where
+  pub bound_kept : (s : Sheet) (r m : ℕ) (d : D) → Bound S V s d → Bound S V (kept r m s) d
+  bound_kept s r m d b p q f g xs ys c hp hq =
+      b p q f g xs ys (closure_kept s r m c) (at_kept s.rows r p (composed f xs) hp) (at_kept s.rows r q (composed g ys) hq)
 
 module _ {D : Type 0} {S : Operations D} (L : IsScale S) {V : Words D} (W : IsVocabulary S V) {s : Sheet} where
   -- Two words in the closure that are not alike at all make the degree bottom; so do two with different numbers of arguments.

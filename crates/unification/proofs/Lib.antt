@@ -15,5 +15,7 @@ pub mod Orderings
 pub mod Main
 pub mod EightWords
 pub mod Bridges
+pub mod Placing
+pub mod Putting
 pub mod Tested
 pub mod Examples

@@ -1,6 +1,7 @@
 use Rattle.std.specs.Prelude.{◌≡◌, ℕ, List, [], ◌∷◌}
 use Rattle.scale.specs.Degrees.{mark_operations}
 use Rattle.scale.specs.declared.mark.Mark.{Mark}
+use Rattle.vocabulary.specs.Words.{Words}
 use Rattle.unification.specs.Closures.{Cycle, IsDegree, Clash, Occurs}
 use Rattle.unification.specs.EightWords.{eight_words}
 use Rattle.unification.specs.Sheets.{Row, variable, composed, Equation, Sheet, IsSheet, equated}
@@ -53,7 +54,16 @@ abbrev pub Bindings : (ℕ → Term) → List Binding → Type 0
 Bindings σ [] = Unit {0}
 Bindings σ (b ∷ bs) = (σ b.label ≡ b.value) × Bindings σ bs
 
--- Equating p and q is possible, at this mark and with these bindings.
+-- The new equation is possible over the words V, at this mark: the sheet with it is well formed, has no cycle and has the mark as its
+-- degree; it has a solved substitution, and each gives these bindings.
+pub record Matched (V : Words Mark) (s : Sheet) (e : Equation) (mark : ℕ) (bindings : List Binding) : Type 0 where
+  pub formed : IsSheet V.count V.arity (equated s e)
+  pub acyclic : Cycle (equated s e) → ⊥
+  pub degree : (d : Mark) × IsDegree mark_operations V (equated s e) d × (d.value ≡ mark)
+  pub solved : (σ : ℕ → Term) × IsSolution (equated s e) σ
+  pub bound : (σ : ℕ → Term) → IsSolution (equated s e) σ → Bindings σ bindings
+
+-- Equating rows p and q of these is possible over the eight words, at this mark and with these bindings.
 pub record Matches (rows : List Row) (p q mark : ℕ) (bindings : List Binding) : Type 0 where
   pub formed : IsSheet eight_words.count eight_words.arity (equated (rowed rows) (between p q))
   pub acyclic : Cycle (equated (rowed rows) (between p q)) → ⊥

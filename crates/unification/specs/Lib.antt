@@ -3,6 +3,7 @@ pub mod Substitutions
 pub mod Similarity
 pub mod Classes
 pub mod Sheets
+pub mod Putting
 pub mod Closures
 pub mod Solutions
 pub mod Tables

@@ -7,5 +7,5 @@ mod theorems;
 pub use eight_words::{eight_words_match, worked_examples_hold};
 pub use theorems::{
     classes_have_degrees, crisp_words_unify, equations_are_possible, order_is_free,
-    sheets_are_possible, sheets_have_degrees, solutions_are_best, terms_are_similar,
+    sheets_are_possible, sheets_have_degrees, solutions_are_best, terms_are_put, terms_are_similar,
 };

@@ -1,4 +1,5 @@
 ghost use Rattle.unification.specs.Classes.{ClassDegrees};
+ghost use Rattle.unification.specs.Putting.{PuttingSettled};
 ghost use Rattle.unification.specs.Similarity.{IsSimilarity};
 ghost use Rattle.unification.specs.Theorems.{CrispUnifies, EquationsPossible, OrderFree, PossibleExactly, SheetsHave, SolutionsAreBest};
 
@@ -62,3 +63,8 @@ pub fn order_is_free<V: Vocabulary>(words: &V)
 {
     let _ = words.count();
 }
+
+/// Every term can be put onto every sheet, in one way, and what was put stands there.
+pub fn terms_are_put()
+    ensures { PuttingSettled }
+{}

@@ -1,0 +1,3 @@
+pub mod Splits
+pub mod Decimals
+pub mod Lines

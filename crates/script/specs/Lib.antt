@@ -1,0 +1,4 @@
+pub mod Fields
+pub mod Verbs
+pub mod Lines
+pub mod Answers
