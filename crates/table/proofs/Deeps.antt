@@ -8,7 +8,7 @@ use Rattle.table.proofs.Growing.{same_class}
 use Rattle.table.proofs.Joins.{composed_with}
 use Rattle.table.specs.Deepening.{Heights, Ready, Settled, Stuck, missing}
 use Rattle.table.specs.Joining.{Uniform}
-use Rattle.table.specs.Stored.{Lower, args_at, args_of, at, depth_at}
+use Rattle.rows.specs.Stored.{Lower, args_at, args_of, at, depth_at}
 use Rattle.unification.proofs.Depths.{closure_rows, endless_cycle}
 use Rattle.unification.proofs.Reading.{at_within}
 use Rattle.unification.proofs.Searches.{search_below}

@@ -1,20 +1,19 @@
 -- A table with one more equation: its classes and depths.
-use Rattle.std.proofs.Common.{◌≡◌, ℕ, ◌<◌, List, [], ◌∷◌, ◌++◌, length, sym, ap, subst, arith}
+use Rattle.std.proofs.Common.{◌≡◌, ℕ, ◌<◌, List, [], ◌∷◌, ◌++◌, length, ap}
 use Rattle.fault.specs.Firsts.{Below}
-use Rattle.table.proofs.Deeps.{settled_depth, stuck_cycle}
 use Rattle.table.proofs.Facts.{Facts}
 use Rattle.table.proofs.Hands.{coherent_at_hand}
-use Rattle.table.proofs.Places.{counted}
+use Rattle.table.proofs.Kept.{cycle_from, deep_from, facts_from, within_from}
+use Rattle.rows.proofs.Places.{counted}
 use Rattle.table.specs.Deepening.{Settled, Stuck}
 use Rattle.table.specs.Equating.{Between, Deep}
 use Rattle.table.specs.Joining.{Uniform}
 use Rattle.table.specs.Sheets.{sheet_of}
-use Rattle.table.specs.Stored.{at, equation_of, equations_of, rows_of}
-use Rattle.table.specs.declared.equations.Equation.{Equation}
-use Rattle.table.specs.declared.equations.Equations.{Equations}
+use Rattle.rows.specs.Stored.{at, equation_of, equations_of, rows_of}
+use Rattle.rows.specs.declared.equations.Equation.{Equation}
+use Rattle.rows.specs.declared.equations.Equations.{Equations}
 use Rattle.table.specs.declared.table.Table.{Table}
 use Rattle.unification.proofs.Bridges.{equated_coherent}
-use Rattle.unification.proofs.Depths.{closure_rows}
 use Rattle.unification.specs.Closures.{Cycle}
 use Rattle.unification.specs.Sheets as theory
 use Rattle.unification.specs.Sheets.{Sheet, IsCoherent, equated}
@@ -33,27 +32,13 @@ module _ (t : Table) (e : Equation) (b : Between (sheet_of t.rows t.equations) (
 
   module _ (c : List ℕ) (R : Represents after (at c)) where
     pub within_after : Below t.rows.len (λ p. at c p < t.rows.len)
-    within_after p h =
-        let n = counted t.rows in
-        let k : p < length after.rows = omega arith in
-        let w = (closure_rows coherent_after (R p k).together).0 k in
-        omega arith
+    within_after = within_from coherent_after t.rows.len (counted t.rows) c R
 
     pub deep_after : (d : List ℕ) → Uniform after.rows (length after.rows) c → Settled after.rows t.rows.len c d → Deep after c d
-    deep_after d U S =
-        let n = counted t.rows in
-        let k = subst (λ (z : ℕ). Settled after.rows z c d) (sym n) S in
-        record {
-          falls = settled_depth coherent_after c R d U k;
-          bound = λ p h. k.bound (at c p) ((closure_rows coherent_after (R p h).together).0 h);
-        }
+    deep_after = deep_from coherent_after t.rows.len (counted t.rows) c R
 
     pub cycle_after : (p : ℕ) → Stuck after.rows t.rows.len c p → Cycle after
-    cycle_after p k = stuck_cycle coherent_after c R p (subst (λ (z : ℕ). Stuck after.rows z c p) (sym (counted t.rows)) k)
+    cycle_after = cycle_from coherent_after t.rows.len (counted t.rows) c R
 
     pub facts_after : (d : List ℕ) → Deep after c d → Facts after t.rows.len c d
-    facts_after d D =
-        let n = counted t.rows in (
-          ∣ coherent_after ∣₁,
-          (∣ R ∣₁, (D.falls, (within_after, (λ p h. let k : p < length after.rows = omega arith in let l = D.bound p k in omega arith, tt)))),
-        )
+    facts_after = facts_from coherent_after t.rows.len (counted t.rows) c R

@@ -4,7 +4,7 @@ use mathlib.Core.Option.{some}
 use Rattle.fault.specs.Firsts.{Below}
 use Rattle.table.proofs.Growing.{depth_grown, represents_grown, shallow_grown, within_grown}
 use Rattle.table.proofs.Hands.{coherent_at_hand, represents_at_hand}
-use Rattle.table.specs.Stored.{args_of, at, depth_at}
+use Rattle.rows.specs.Stored.{args_of, at, depth_at}
 use Rattle.unification.proofs.Bridges.{appended_coherent}
 use Rattle.unification.specs.Closures.{IsDepth}
 use Rattle.unification.specs.Sheets.{Row, Sheet, Fits, IsCoherent, appended}

@@ -1,8 +1,8 @@
 -- A fresh sheet.
 use Rattle.std.proofs.Common.{◌≡◌, ℕ, List, refl, arith}
-use Rattle.table.specs.Stored.{equations_of, rows_of}
-use Rattle.table.specs.declared.equations.Equation.{Equation}
-use Rattle.table.specs.declared.row.Row.{Row}
+use Rattle.rows.specs.Stored.{equations_of, rows_of}
+use Rattle.rows.specs.declared.equations.Equation.{Equation}
+use Rattle.rows.specs.declared.row.Row.{Row}
 use Rattle.unification.specs.Closures.{IsDepth}
 use Rattle.unification.specs.Sheets.{Sheet, fresh}
 use Rattle.unification.specs.Tables.{Represents}

@@ -1,12 +1,13 @@
 -- A sheet with one more row: the row is its own class, and all else stays.
-use Rattle.std.proofs.Common.{◌≡◌, ℕ, ◌+◌, ◌<◌, ◌≤◌, ◌⊎◌, List, [], ◌∷◌, ◌++◌, length, get_or, set, sym, ap, ◌∙◌, subst, inl, inr, arith, length-append}
+use Rattle.std.proofs.Common.{◌≡◌, ℕ, ◌+◌, ◌<◌, ◌≤◌, ◌⊎◌, List, [], ◌∷◌, ◌++◌, length, get_or, set, sym, refl, ap, ◌∙◌, subst, inl, inr, arith, length-append}
 use mathlib.Core.Option.{Option, some}
 use lib.ListN.{get_elem?}
 use Rattle.fault.specs.Firsts.{Below}
 use Rattle.std.proofs.lemmas.List.{get_or-set_other, get_or-set_same}
 use Rattle.std.proofs.lemmas.Bool.{cases_eq}
-use Rattle.table.proofs.Places.{appended_at, last_at}
-use Rattle.table.specs.Stored.{args_of, at, depth_at}
+use Rattle.rows.proofs.Places.{appended_at, last_at}
+use Rattle.table.specs.Joining.{Uniform}
+use Rattle.rows.specs.Stored.{args_of, at, depth_at}
 use Rattle.unification.proofs.Bridges.{appended_coherent, depth_from, represents_from}
 use Rattle.unification.proofs.Depths.{closure_rows}
 use Rattle.unification.proofs.Orderings.{closure_appended}
@@ -143,3 +144,8 @@ module _ {s : Sheet} (I : IsCoherent s) (c : List ℕ) (R : Represents s (at c))
         | inl e ↦ let l = ap (at grown) e ∙ at_new in omega arith
         | inr e ↦ let h : p < length s.rows = omega arith in let l = at_old p h in let m = inside p h in omega arith
       ]
+
+  pub uniform_grown : Uniform s.rows (length s.rows) c → Uniform (s.rows ++ (r ∷ [])) (length s.rows + 1) grown
+  uniform_grown U p hp =
+      let n = length-append s.rows (r ∷ []) in
+      every (λ p q a b. kind b ≡ 0 → length (args_of b) ≡ length (args_of a)) U (λ e. refl) p (omega arith)

@@ -8,10 +8,11 @@ use Rattle.fault.specs.Firsts.{Below}
 use Rattle.std.proofs.lemmas.List.{get_or-map, length-map}
 use Rattle.std.proofs.lemmas.Bool.{cases_eq, cases_Bool, cond-true, cond-false, eq-eqb, ne_eqb, leb-true, leb-false}
 use Rattle.table.proofs.Growing.{same_class}
-use Rattle.table.proofs.Renaming.{renamed_same, renamed_other}
+use Rattle.rows.proofs.Renaming.{renamed_same, renamed_other}
 use Rattle.table.specs.Joining.{Sound, Sides, Agrees, Apart, Differ, Uniform, Unlike, keeps_left, merged, labels}
-use Rattle.table.specs.Labels.{renamed}
-use Rattle.table.specs.Stored.{Lower, args_at, args_of, at, rank}
+use Rattle.rows.specs.Limits.{most_rows}
+use Rattle.rows.specs.Labels.{renamed}
+use Rattle.rows.specs.Stored.{Lower, args_at, args_of, at, rank}
 use Rattle.unification.proofs.Bridges.{represents_from}
 use Rattle.unification.proofs.Depths.{closure_rows}
 use Rattle.unification.proofs.Numberings.{at_hand}
@@ -161,16 +162,21 @@ composed_kind (some (variable x)) h = absurd (omega arith)
 composed_kind (some (composed f xs)) h = (f, refl)
 
 module _ (sheet : Sheet) (n : ℕ) where
+  -- The arguments in one place of rows in the closure, with equally many, are in the closure.
+  pub args_together : (p q i : ℕ) → ∥ Closure sheet p q ∥₁ → length (args_at sheet.rows p) ≡ length (args_at sheet.rows q) → i < length (args_at sheet.rows p) → ∥ Closure sheet (get_or (args_at sheet.rows p) i 0) (get_or (args_at sheet.rows q) i 0) ∥₁
+  args_together p q i t l h =
+      let xs = args_at sheet.rows p in
+      let ys = args_at sheet.rows q in
+      let a = composed_with (get_elem? sheet.rows p) i h in
+      let b = composed_with (get_elem? sheet.rows q) i (subst (λ (z : ℕ). i < z) l h) in
+      ∥∥₁_map t (λ k. passed a.0 b.0 xs ys i k a.1 b.1 l h)
+
   -- What is found apart is in the closure, and rows.
   pub apart_together : (c : List ℕ) (x y : ℕ) → Sound sheet n c → Apart sheet.rows n c x y → ∥ Closure sheet x y ∥₁
   apart_together c x y s o =
-      let xs = args_at sheet.rows o.row in
-      let ys = args_at sheet.rows (at c o.row) in
-      let a = composed_with (get_elem? sheet.rows o.row) o.place o.place_in in
-      let b = composed_with (get_elem? sheet.rows (at c o.row)) o.place (subst (λ (z : ℕ). o.place < z) o.arities o.place_in) in
       subst (λ (z : ℕ). ∥ Closure sheet z y ∥₁) (sym o.left)
-      (subst (λ (z : ℕ). ∥ Closure sheet (get_or xs o.place 0) z ∥₁) (sym o.right)
-      (∥∥₁_map (s.together o.row o.row_in) (λ k. passed a.0 b.0 xs ys o.place k a.1 b.1 o.arities o.place_in)))
+      (subst (λ (z : ℕ). ∥ Closure sheet (get_or (args_at sheet.rows o.row) o.place 0) z ∥₁) (sym o.right)
+      (args_together o.row (at c o.row) o.place (s.together o.row o.row_in) o.arities o.place_in))
 
   pub apart_left : (c : List ℕ) (x y : ℕ) → Lower sheet.rows → Apart sheet.rows n c x y → x < n
   apart_left c x y l o = let a = l o.row o.place o.place_in in let b = o.row_in in let e = o.left in omega arith
@@ -186,6 +192,14 @@ module _ (sheet : Sheet) (n : ℕ) where
   sides_merged I c a b len k e m =
       let w = I.within e m in
       merged_keeps sheet n c a b e.left e.right (let x = w.0 in omega arith) (let x = w.1 in omega arith) (k e m)
+
+  -- One more joining, of rows in the closure that have two numbers.
+  pub joined_more : IsCoherent sheet → n ≡ length sheet.rows → (c : List ℕ) (a b : ℕ) → n ≤ length c → Sound sheet n c × Sides sheet c → a < n → b < n → ∥ Closure sheet a b ∥₁ → (at c a ≡ at c b → ⊥) → Sound sheet n (merged sheet.rows c a b) × Sides sheet (merged sheet.rows c a b) × (labels (merged sheet.rows c a b) n < labels c n)
+  joined_more I e c a b len s ha hb t d = (
+    sound_merged sheet n c a b len s.0 ha hb t,
+    sides_merged I c a b (omega arith) s.1,
+    merged_falls sheet n c a b len s.0 ha hb d,
+  )
 
   -- Two rows of a class with different numbers of arguments.
   pub differ_unlike : IsCoherent sheet → (c : List ℕ) (p q : ℕ) → Sound sheet n c → Differ sheet.rows n c p q → Unlike sheet p q
@@ -204,7 +218,7 @@ module _ (sheet : Sheet) (n : ℕ) where
       }
 
   -- Numbers that agree everywhere give the representatives.
-  pub represents_joined : IsCoherent sheet → n ≡ length sheet.rows → n ≤ 512 → (c : List ℕ) → Sound sheet n c → Sides sheet c → Below n (Agrees sheet.rows c) → Uniform sheet.rows n c → Represents sheet (at c)
+  pub represents_joined : IsCoherent sheet → n ≡ length sheet.rows → n ≤ most_rows → (c : List ℕ) → Sound sheet n c → Sides sheet c → Below n (Agrees sheet.rows c) → Uniform sheet.rows n c → Represents sheet (at c)
   represents_joined I e b c s k A U =
       represents_from I (star_closed star) (λ p h. s.together p (omega arith))
       (λ p h. let f = s.first p (omega arith) in let w = s.within p (omega arith) in omega arith)
@@ -223,7 +237,7 @@ module _ (sheet : Sheet) (n : ℕ) where
           }
 
 -- The classes of a sheet are sound for the sheet with one more equation.
-module _ {s : Sheet} (I : IsCoherent s) (c : List ℕ) (R : Represents s (at c)) (e : Equation) (b : length s.rows ≤ 512) where
+module _ {s : Sheet} (I : IsCoherent s) (c : List ℕ) (R : Represents s (at c)) (e : Equation) (b : length s.rows ≤ most_rows) where
   pub sound_equated : Sound (equated s e) (length s.rows) c
   sound_equated =
       record {

@@ -1,8 +1,10 @@
 -- Of the answers that a call may give, one fits.
 use Rattle.std.proofs.Common.{◌≡◌, ℕ, ◌<◌, List, length, get_or, Ok, Err, Result, sym, refl, ap, ◌∙◌, inl, inr, arith}
 use Rattle.fault.proofs.Firsts.{first1_only}
-use Rattle.table.specs.Calls.{ComposeGives, VariableGives}
+use Rattle.table.specs.Calls.{BackGives, ComposeGives, KeptAmong, NamesDropped, VariableGives}
 use Rattle.table.specs.Verdicts.{CallsSettled}
+use Rattle.table.specs.declared.causes.BackFault.{BackFault}
+use Rattle.table.specs.declared.causes.BackFault.TheVariants.{Rows, Equations, Dropped}
 use Rattle.table.specs.declared.causes.RowFault.{RowFault}
 use Rattle.table.specs.declared.causes.RowFault.TheVariants.{TooMany, Missing, Label, Full}
 use Rattle.unification.specs.Sheets.{Sheet, IsCoherent}
@@ -55,5 +57,27 @@ compose_settled s f xs (Err Full) (Err Full) t u h k = (refl, h.3 ∙ sym k.3)
 compose_settled s f xs (Err Full) (Err Label) t u h k = absurd k
 compose_settled s f xs (Err Label) q t u h k = absurd h
 
+-- An equation is not among the rows that are kept and about another at once.
+not_both : (s : Sheet) (n m : ℕ) → KeptAmong s n m → NamesDropped s n m → ⊥
+not_both s n m k d = let w = k d.0 d.1 in elim d.2 [ inl a ↦ omega arith | inr b ↦ omega arith ]
+
+back_settled : (s : Sheet) (n m : ℕ) (r q : Result (Unit {0}) BackFault) (t u : Sheet) → BackGives s n m r t → BackGives s n m q u → (r ≡ q) × (t ≡ u)
+back_settled s n m (Ok x) (Ok y) t u h k = (refl, h.3 ∙ sym k.3)
+back_settled s n m (Ok x) (Err Rows) t u h k = let i = h.0 in let l = k.0 in absurd (omega arith)
+back_settled s n m (Ok x) (Err Equations) t u h k = let i = h.1 in let l = k.1 in absurd (omega arith)
+back_settled s n m (Ok x) (Err Dropped) t u h k = absurd (not_both s n m h.2 k.2)
+back_settled s n m (Err Rows) (Ok y) t u h k = let i = h.0 in let l = k.0 in absurd (omega arith)
+back_settled s n m (Err Rows) (Err Rows) t u h k = (refl, h.1 ∙ sym k.1)
+back_settled s n m (Err Rows) (Err Equations) t u h k = let i = h.0 in let l = k.0 in absurd (omega arith)
+back_settled s n m (Err Rows) (Err Dropped) t u h k = let i = h.0 in let l = k.0 in absurd (omega arith)
+back_settled s n m (Err Equations) (Ok y) t u h k = let i = h.1 in let l = k.1 in absurd (omega arith)
+back_settled s n m (Err Equations) (Err Rows) t u h k = let i = h.0 in let l = k.0 in absurd (omega arith)
+back_settled s n m (Err Equations) (Err Equations) t u h k = (refl, h.2 ∙ sym k.2)
+back_settled s n m (Err Equations) (Err Dropped) t u h k = let i = h.1 in let l = k.1 in absurd (omega arith)
+back_settled s n m (Err Dropped) (Ok y) t u h k = absurd (not_both s n m k.2 h.2)
+back_settled s n m (Err Dropped) (Err Rows) t u h k = let i = h.0 in let l = k.0 in absurd (omega arith)
+back_settled s n m (Err Dropped) (Err Equations) t u h k = let i = h.1 in let l = k.1 in absurd (omega arith)
+back_settled s n m (Err Dropped) (Err Dropped) t u h k = (refl, h.3 ∙ sym k.3)
+
 pub calls_settled : CallsSettled
-calls_settled = record { variable = variable_settled; compose = compose_settled }
+calls_settled = record { variable = variable_settled; compose = compose_settled; back = back_settled }

@@ -1,6 +1,6 @@
 use Rattle.std.specs.Prelude.{◌≡◌, ℕ, zero, suc, ◌+◌, ◌<◌, ◌≤◌, cond, List, length, ◌==◌, slice_index}
 use Rattle.fault.specs.Firsts.{Below}
-use Rattle.table.specs.Stored.{args_at, at, depth_at}
+use Rattle.rows.specs.Stored.{args_at, at, depth_at}
 use Rattle.unification.specs.Sheets.{Row}
 
 -- How rows are given depths, one after the other. A depth of 0 is none yet.

@@ -1,8 +1,8 @@
 use Rattle.std.specs.Prelude.{length, Ok, Err, Result}
 use Rattle.table.specs.Joining.{Uniform, Unlike}
-use Rattle.table.specs.Stored.{at}
+use Rattle.rows.specs.Stored.{at}
 use Rattle.table.specs.declared.causes.Unequal.{Unequal}
-use Rattle.table.specs.declared.numbers.Numbers.{Numbers}
+use Rattle.rows.specs.declared.numbers.Numbers.{Numbers}
 use Rattle.unification.specs.Sheets.{Sheet}
 use Rattle.unification.specs.Tables.{Represents}
 

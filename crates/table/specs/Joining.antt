@@ -1,8 +1,8 @@
 use Rattle.std.specs.Prelude.{◌≡◌, ℕ, zero, suc, ◌+◌, ◌<◌, ◌≤◌, Bool, cond, List, map, length, ◌==◌, nat_le, slice_index}
 use Rattle.std.proofs.Math.ListN.{get_elem?}
 use Rattle.fault.specs.Firsts.{Below}
-use Rattle.table.specs.Labels.{renamed}
-use Rattle.table.specs.Stored.{args_at, at, rank}
+use Rattle.rows.specs.Labels.{renamed}
+use Rattle.rows.specs.Stored.{args_at, at, rank}
 use Rattle.unification.specs.Closures.{Closure, kind}
 use Rattle.unification.specs.Sheets.{Row, Equation, Sheet, At, Holds, composed}
 

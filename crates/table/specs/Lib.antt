@@ -3,7 +3,6 @@ pub mod Deepening
 pub mod Equating
 pub mod Joined
 pub mod Joining
-pub mod Labels
 pub mod Sheets
-pub mod Stored
+pub mod Uniformity
 pub mod Verdicts

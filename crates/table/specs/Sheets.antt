@@ -1,6 +1,6 @@
-use Rattle.table.specs.Stored.{equations_of, rows_of}
-use Rattle.table.specs.declared.equations.Equations.{Equations}
-use Rattle.table.specs.declared.rows.Rows.{Rows}
+use Rattle.rows.specs.Stored.{equations_of, rows_of}
+use Rattle.rows.specs.declared.equations.Equations.{Equations}
+use Rattle.rows.specs.declared.rows.Rows.{Rows}
 use Rattle.unification.specs.Sheets.{Sheet}
 
 -- The sheet that rows and equations make.

@@ -1,14 +1,25 @@
 /// Why a table takes no more rows.
-#[derive(Clone, Copy)]
+#[derive(Clone, Copy, PartialEq, Eq, Debug)]
 pub enum RowFault {
     /// More arguments than a row has slots.
     TooMany,
     /// The argument at this position, from 0, is no row.
     Missing(u16),
-    /// A label above 99.
+    /// No label: not below `LABELS`.
     Label,
-    /// There are 512 rows.
+    /// There are `MOST_ROWS` rows.
     Full,
+}
+
+/// Why a table does not go back.
+#[derive(Clone, Copy, PartialEq, Eq, Debug)]
+pub enum BackFault {
+    /// There are fewer rows.
+    Rows,
+    /// There are fewer equations.
+    Equations,
+    /// An equation that would be kept is about a row that would not.
+    Dropped,
 }
 
 /// Two composed rows that have to be equal, with different numbers of arguments.
@@ -23,7 +34,7 @@ pub struct Unequal {
 pub enum JoinFault {
     /// The side at this position, 0 or 1, is no row.
     Missing(u16),
-    /// There are 128 equations.
+    /// There are `MOST_EQUATIONS` equations.
     Full,
     /// With the equation these two composed rows would be in the closure, and have different numbers of arguments.
     Unequal(Unequal),

@@ -1,10 +1,9 @@
 ghost use Rattle.std.specs.Prelude.{◌≡◌, ◌<◌, ◌≤◌, length, MatchOption, ◌≢◌, slice_index};
 ghost use Rattle.fault.specs.Firsts.{Below};
 ghost use Rattle.table.specs.Joining.{Agrees, Apart, Differ, Uniform, merged};
-ghost use Rattle.table.specs.Stored.{args_at, at, rank, rows_of};
+ghost use Rattle.rows.specs.Stored.{args_at, at, rank, rows_of};
 
-use crate::numbers::Numbers;
-use crate::rows::Rows;
+use rows::{Numbers, Rows};
 
 /// Makes the classes of rows `a` and `b` one, under the number of lesser rank.
 pub fn merge(rows: &Rows, classes: &mut Numbers, a: usize, b: usize)

@@ -1,10 +1,9 @@
 ghost use Rattle.std.specs.Prelude.{◌≡◌, ◌+◌, ◌<◌, ◌≤◌, length, Decides, MatchOption, MatchResult, slice_index};
 ghost use Rattle.fault.specs.Firsts.{Below};
 ghost use Rattle.table.specs.Deepening.{Heights, Ready, Settled, Still, Stuck, missing};
-ghost use Rattle.table.specs.Stored.{args_at, at, depth_at, rows_of};
+ghost use Rattle.rows.specs.Stored.{args_at, at, depth_at, rows_of};
 
-use crate::numbers::Numbers;
-use crate::rows::Rows;
+use rows::{Numbers, Rows};
 
 /// The first place at which the class of an argument of row `p` has no depth yet.
 fn waits(rows: &Rows, classes: &Numbers, depths: &Numbers, p: usize) -> Option<usize>

@@ -4,17 +4,12 @@
 mod causes;
 mod closing;
 mod deepening;
-mod equations;
 mod joining;
-mod numbers;
-mod row;
-mod rows;
+mod rebuilding;
 mod table;
 mod verdicts;
 
-pub use causes::{JoinFault, RowFault, Unequal};
-pub use equations::Equation;
-pub use numbers::Numbers;
-pub use row::Row;
+pub use causes::{BackFault, JoinFault, RowFault, Unequal};
+pub use rows::{Equation, LABELS, MOST_EQUATIONS, MOST_ROWS, Numbers, Row};
 pub use table::Table;
 pub use verdicts::calls_are_settled;

@@ -1,25 +1,27 @@
 ghost use Rattle.std.specs.Prelude.{◌≡◌, ◌+◌, ◌<◌, ◌≤◌, length, take, MatchOption, slice_index};
 ghost use Rattle.fault.specs.Firsts.{Below, First1};
-ghost use Rattle.table.specs.Calls.{ComposeGives, KeptOnErr, Unlabelled, VariableGives};
+ghost use Rattle.table.specs.Calls.{BackGives, ComposeGives, KeptAmong, KeptOnErr, VariableGives};
 ghost use Rattle.table.specs.Equating.{Between, Deep, DeepenAnswers, JoinAnswers};
 ghost use Rattle.table.specs.Joining.{Uniform};
 ghost use Rattle.table.specs.Sheets.{sheet_of};
-ghost use Rattle.table.specs.Stored.{InSlots, args_of, at, depth_at, equation_of, row_of};
+ghost use Rattle.table.specs.Uniformity.{IsUniform};
+ghost use Rattle.rows.specs.Limits.{most_arguments, most_equations, most_rows};
+ghost use Rattle.rows.specs.Stored.{InSlots, args_of, at, depth_at, equation_of, pair_of, row_of};
 ghost use Rattle.unification.specs.Closures.{IsDepth, Representative};
-ghost use Rattle.unification.specs.Sheets.{At, Fits, IsCoherent, appended, equated, fresh, variable};
+ghost use Rattle.unification.specs.Putting.{Unlabelled};
+ghost use Rattle.unification.specs.Sheets.{At, Fits, IsCoherent, appended, equated, fresh, kept, variable};
 ghost use Rattle.unification.specs.Tables.{Represents};
+ghost use Rattle.std.proofs.Math.ListN.{get_elem?};
 ghost use Rattle.std.proofs.Math.Option.{some};
 
-use crate::causes::{JoinFault, RowFault};
+use crate::causes::{BackFault, JoinFault, RowFault};
 use crate::closing::merge;
 use crate::deepening::deepen;
-use crate::equations::{Equation, Equations};
 use crate::joining::close;
-use crate::numbers::Numbers;
-use crate::row::Row;
-use crate::rows::Rows;
+use crate::rebuilding::{classes_of, depths_of};
+use rows::{Equation, Equations, LABELS, MOST_EQUATIONS, MOST_ROWS, Numbers, Row, Rows, SLOTS};
 
-/// A sheet of up to 512 rows and up to 128 equations, with the representative of each row, which numbers its class, and the depth of each
+/// A sheet of up to `MOST_ROWS` rows and up to `MOST_EQUATIONS` equations, with the representative of each row, which numbers its class, and the depth of each
 /// class. The depths fall from a row to each row that it is above, so there is no cycle.
 #[derive(Clone, Copy)]
 pub struct Table {
@@ -37,7 +39,8 @@ pub struct Table {
 impl Table {
     /// The table of a fresh sheet.
     pub fn new() -> Self
-        ensures { sheet_of result.rows result.equations ≡ fresh }
+        ensures sheet { sheet_of result.rows result.equations ≡ fresh }
+        ensures uniform { IsUniform result.rows result.equations result.classes }
     {
         Table {
             rows: Rows::none(),
@@ -73,12 +76,33 @@ impl Table {
 
     /// The representative of row `p`; nothing where there is no such row.
     pub fn representative(&self, p: u16) -> Option<u16>
-        ensures { MatchOption result (length (sheet_of self.now.rows self.now.equations).rows ≤ p) (λ q. Representative (sheet_of self.now.rows self.now.equations) q p) }
+        ensures { MatchOption result (length (sheet_of self.now.rows self.now.equations).rows ≤ p) (λ q. (p < length (sheet_of self.now.rows self.now.equations).rows) × Representative (sheet_of self.now.rows self.now.equations) q p) }
     {
         if p as usize >= self.rows.len() {
             return None;
         }
         Some(self.classes.of(p as usize) as u16)
+    }
+
+    /// The class of each row, numbered by its representative.
+    pub fn classes(&self) -> &Numbers
+        ensures value { result.now ≡ self.now.classes }
+        ensures represents { Represents (sheet_of self.now.rows self.now.equations) (at result.now.of) }
+    {
+        &self.classes
+    }
+
+    /// The words of row `p` and of the row that numbers its class, where both are composed rows.
+    pub fn words_at(&self, classes: &Numbers, p: u16) -> Option<(u16, u16)>
+        ensures { result ≡ pair_of (get_elem? (sheet_of self.now.rows self.now.equations).rows p) (get_elem? (sheet_of self.now.rows self.now.equations).rows (at classes.now.of p)) }
+    {
+        match self.rows.word(p as usize) {
+            Some(word) => match self.rows.word(classes.of(p as usize)) {
+                Some(chief) => Some((word, chief)),
+                None => None,
+            },
+            None => None,
+        }
     }
 
     /// The row of the label; nothing where it has none.
@@ -95,12 +119,13 @@ impl Table {
 
     /// One more row, after the last, with its depth.
     fn push(&mut self, row: Row, depth: u16)
-        requires room { self.old.rows.len < 512 }
+        requires room { self.old.rows.len < most_rows }
         requires slots { InSlots row }
         requires fits { Fits (sheet_of self.old.rows self.old.equations) (row_of row) }
         requires above { Below (length (args_of (some (row_of row)))) (λ i. depth_at self.old.classes.of self.old.depths.of (slice_index (args_of (some (row_of row))) i) < depth) }
         requires shallow { depth ≤ self.old.rows.len + 1 }
-        ensures { sheet_of self.new.rows self.new.equations ≡ appended (sheet_of self.old.rows self.old.equations) (row_of row) }
+        ensures sheet { sheet_of self.new.rows self.new.equations ≡ appended (sheet_of self.old.rows self.old.equations) (row_of row) }
+        ensures uniform { IsUniform self.old.rows self.old.equations self.old.classes → IsUniform self.new.rows self.new.equations self.new.classes }
     {
         let n = self.rows.len();
         self.rows.push(row);
@@ -112,15 +137,16 @@ impl Table {
     pub fn variable(&mut self, label: u16) -> Result<u16, RowFault>
         ensures answer { VariableGives (sheet_of self.old.rows self.old.equations) label result (sheet_of self.new.rows self.new.equations) }
         ensures kept { KeptOnErr result self.old self.new }
+        ensures uniform { IsUniform self.old.rows self.old.equations self.old.classes → IsUniform self.new.rows self.new.equations self.new.classes }
     {
-        if label > 99 {
+        if label >= LABELS {
             return Err(RowFault::Label);
         }
         if let Some(p) = self.row_of(label) {
             return Ok(p);
         }
         let n = self.rows.len();
-        if n >= 512 {
+        if n >= MOST_ROWS {
             return Err(RowFault::Full);
         }
         self.push(Row::Variable(label), 0);
@@ -156,15 +182,16 @@ impl Table {
     pub fn compose(&mut self, word: u16, rows: &[u16]) -> Result<u16, RowFault>
         ensures answer { ComposeGives (sheet_of self.old.rows self.old.equations) word rows.now result (sheet_of self.new.rows self.new.equations) }
         ensures kept { KeptOnErr result self.old self.new }
+        ensures uniform { IsUniform self.old.rows self.old.equations self.old.classes → IsUniform self.new.rows self.new.equations self.new.classes }
     {
-        if rows.len() > 6 {
+        if rows.len() > SLOTS {
             return Err(RowFault::TooMany);
         }
         let n = self.rows.len();
         if let Some(i) = first_missing(rows, n) {
             return Err(RowFault::Missing(i as u16));
         }
-        if n >= 512 {
+        if n >= MOST_ROWS {
             return Err(RowFault::Full);
         }
         let depth = self.depth_above(rows);
@@ -183,7 +210,7 @@ impl Table {
         if e.right as usize >= n {
             return Err(JoinFault::Missing(1));
         }
-        if self.equations.len() >= 128 {
+        if self.equations.len() >= MOST_EQUATIONS {
             return Err(JoinFault::Full);
         }
         let mut equations = self.equations;
@@ -212,14 +239,60 @@ impl Table {
     /// Puts the equation at the end of the others, with the classes and depths that it makes.
     pub fn commit(&mut self, e: Equation, classes: &Numbers, depths: &Numbers)
         requires between { Between (sheet_of self.old.rows self.old.equations) (equation_of e) }
-        requires room { length (sheet_of self.old.rows self.old.equations).equations < 128 }
+        requires room { length (sheet_of self.old.rows self.old.equations).equations < most_equations }
         requires represents { Represents (equated (sheet_of self.old.rows self.old.equations) (equation_of e)) (at classes.now.of) }
         requires deep { Deep (equated (sheet_of self.old.rows self.old.equations) (equation_of e)) classes.now.of depths.now.of }
-        ensures { sheet_of self.new.rows self.new.equations ≡ equated (sheet_of self.old.rows self.old.equations) (equation_of e) }
+        ensures sheet { sheet_of self.new.rows self.new.equations ≡ equated (sheet_of self.old.rows self.old.equations) (equation_of e) }
+        ensures uniform { Uniform (sheet_of self.old.rows self.old.equations).rows (length (sheet_of self.old.rows self.old.equations).rows) classes.now.of → IsUniform self.new.rows self.new.equations self.new.classes }
     {
         self.equations.push(e);
         self.classes = *classes;
         self.depths = *depths;
+    }
+
+    /// The table of the first `n` rows and the first `m` equations.
+    fn first(&self, n: usize, m: usize) -> Table
+        requires rows { n ≤ self.now.rows.len }
+        requires equations { m ≤ self.now.equations.len }
+        requires among { KeptAmong (sheet_of self.now.rows self.now.equations) n m }
+        requires uniform { IsUniform self.now.rows self.now.equations self.now.classes }
+        ensures sheet { sheet_of result.rows result.equations ≡ kept n m (sheet_of self.now.rows self.now.equations) }
+        ensures uniform { IsUniform result.rows result.equations result.classes }
+    {
+        let mut rows = self.rows;
+        rows.cut(n);
+        let mut equations = self.equations;
+        equations.cut(m);
+        let classes = classes_of(&rows, &equations);
+        let depths = depths_of(&rows, &equations, &classes);
+        Table {
+            rows,
+            equations,
+            classes,
+            depths,
+        }
+    }
+
+    /// Goes back to the first `rows` rows and the first `equations` equations.
+    pub fn back(&mut self, rows: u16, equations: u16) -> Result<(), BackFault>
+        requires { IsUniform self.old.rows self.old.equations self.old.classes }
+        ensures answer { BackGives (sheet_of self.old.rows self.old.equations) rows equations result (sheet_of self.new.rows self.new.equations) }
+        ensures kept { KeptOnErr result self.old self.new }
+        ensures uniform { IsUniform self.new.rows self.new.equations self.new.classes }
+    {
+        let n = rows as usize;
+        let m = equations as usize;
+        if n > self.rows.len() {
+            return Err(BackFault::Rows);
+        }
+        if m > self.equations.len() {
+            return Err(BackFault::Equations);
+        }
+        if let Some(_) = self.equations.find_outside(m, n) {
+            return Err(BackFault::Dropped);
+        }
+        *self = self.first(n, m);
+        Ok(())
     }
 }
 
@@ -235,13 +308,13 @@ fn first_missing(rows: &[u16], n: usize) -> Option<usize>
     None
 }
 
-/// The numbers, and then zeros up to six.
-fn slots(rows: &[u16]) -> [u16; 6]
-    requires { length rows.now ≤ 6 }
-    ensures size { length result ≡ 6 }
+/// The numbers, and then zeros in the other slots.
+fn slots(rows: &[u16]) -> [u16; SLOTS]
+    requires { length rows.now ≤ most_arguments }
+    ensures size { length result ≡ most_arguments }
     ensures items { take (length rows.now) result ≡ rows.now }
 {
-    let mut slots = [0; 6];
+    let mut slots = [0; SLOTS];
     for k in 0..rows.len() {
         slots[k] = rows[k];
     }

@@ -1,7 +1,9 @@
 // Cases of a table, each with the answer worked out by hand.
 #![tactic(auto)]
 
-use table::{Equation, JoinFault, RowFault, Table};
+ghost use Rattle.table.specs.Uniformity.{IsUniform};
+
+use table::{BackFault, Equation, JoinFault, RowFault, Table};
 
 /// What equating two rows came to.
 #[derive(Clone, Copy, PartialEq, Eq, Debug)]
@@ -14,7 +16,9 @@ pub enum Answer {
 }
 
 /// Puts the equation down unless it is refused.
-pub fn equate(table: &mut Table, left: u16, right: u16) -> Answer {
+pub fn equate(table: &mut Table, left: u16, right: u16) -> Answer
+    ensures { IsUniform table.old.rows table.old.equations table.old.classes → IsUniform table.new.rows table.new.equations table.new.classes }
+{
     let e = Equation { left, right };
     match table.join(e) {
         Ok(classes) => match table.deepen(e, &classes) {
@@ -93,6 +97,10 @@ fn alike_words(rt: HostRuntime) {
     assert_eq!(rt; t.representative(6), Some(2));
     assert_eq!(rt; t.representative(7), Some(3));
     assert_eq!(rt; t.representative(8), None);
+    assert_eq!(rt; t.words_at(t.classes(), 6), Some((2, 1)));
+    assert_eq!(rt; t.words_at(t.classes(), 3), Some((0, 0)));
+    assert_eq!(rt; t.words_at(t.classes(), 0), None);
+    assert_eq!(rt; t.words_at(t.classes(), 8), None);
     assert_eq!(rt; t.equation_count(), 1);
     assert_eq!(rt; t.row_count(), 8);
 }
@@ -148,4 +156,51 @@ fn edges(rt: HostRuntime) {
     assert_eq!(rt; equate(&mut t, 511, 510), Answer::Full);
     assert_eq!(rt; t.representative(511), Some(510));
     assert_eq!(rt; t.equation_count(), 128);
+}
+
+// Rows 0 ?1, 1 paused(?1), 2 grid, 3 paused(grid), 4 ?2, with the equations of 1 and 3, and of 4 and 2.
+#[test]
+fn back_over_equations(rt: HostRuntime) {
+    let mut t = Table::new();
+    assert_eq!(rt; made(t.variable(1)), Some(0));
+    assert_eq!(rt; made(t.compose(1, &[0])), Some(1));
+    assert_eq!(rt; made(t.compose(4, &[])), Some(2));
+    assert_eq!(rt; made(t.compose(1, &[2])), Some(3));
+    assert_eq!(rt; made(t.variable(2)), Some(4));
+    assert_eq!(rt; equate(&mut t, 1, 3), Answer::Done);
+    assert_eq!(rt; equate(&mut t, 4, 2), Answer::Done);
+    assert_eq!(rt; t.representative(4), Some(2));
+    assert_eq!(rt; t.back(5, 1), Ok(()));
+    assert_eq!(rt; t.representative(4), Some(4));
+    assert_eq!(rt; t.representative(0), Some(2));
+    assert_eq!(rt; t.back(4, 1), Ok(()));
+    assert_eq!(rt; t.representative(4), None);
+    assert_eq!(rt; t.representative(3), Some(1));
+    assert_eq!(rt; t.back(3, 0), Ok(()));
+    assert_eq!(rt; t.representative(0), Some(0));
+    assert_eq!(rt; t.back(0, 0), Ok(()));
+    assert_eq!(rt; t.row_count(), 0);
+    assert_eq!(rt; made(t.variable(9)), Some(0));
+}
+
+// Rows 0 ?1, 1 grid, 2 paused(grid), with the equation of 0 and 1.
+#[test]
+fn back_refused(rt: HostRuntime) {
+    let mut t = Table::new();
+    assert_eq!(rt; made(t.variable(1)), Some(0));
+    assert_eq!(rt; made(t.compose(4, &[])), Some(1));
+    assert_eq!(rt; made(t.compose(1, &[1])), Some(2));
+    assert_eq!(rt; equate(&mut t, 0, 1), Answer::Done);
+    assert_eq!(rt; equate(&mut t, 0, 2), Answer::Unequal(2, 1));
+    assert_eq!(rt; t.back(4, 2), Err(BackFault::Rows));
+    assert_eq!(rt; t.back(3, 2), Err(BackFault::Equations));
+    assert_eq!(rt; t.back(1, 2), Err(BackFault::Equations));
+    assert_eq!(rt; t.back(1, 1), Err(BackFault::Dropped));
+    assert_eq!(rt; t.representative(0), Some(1));
+    assert_eq!(rt; t.back(3, 0), Ok(()));
+    assert_eq!(rt; equate(&mut t, 0, 2), Answer::Done);
+    assert_eq!(rt; t.representative(0), Some(2));
+    assert_eq!(rt; t.back(2, 1), Err(BackFault::Dropped));
+    assert_eq!(rt; t.back(2, 0), Ok(()));
+    assert_eq!(rt; t.equation_count(), 0);
 }

@@ -2,7 +2,7 @@ use Rattle.std.proofs.Common.{ℕ, ◌+◌, ◌≤◌, List, length, set, refl, 
 use Rattle.table.proofs.Deeps.{heights_more, heights_moved, heights_none, missing_falls}
 use Rattle.table.proofs.deepening.deepen.Goals as goal
 use Rattle.table.specs.Deepening.{missing}
-use Rattle.table.specs.Stored.{rows_of}
+use Rattle.rows.specs.Stored.{rows_of}
 
 pub loop-p-init : goal.loop-p-init
 loop-p-init c =

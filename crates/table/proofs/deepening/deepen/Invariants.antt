@@ -1,6 +1,6 @@
 use Rattle.table.proofs.deepening.deepen.Given as goal
 use Rattle.table.specs.Deepening.{Heights, missing}
-use Rattle.table.specs.Stored.{rows_of}
+use Rattle.rows.specs.Stored.{rows_of}
 
 abbrev pub invariant-loop-p : goal.invariant-loop-p
 invariant-loop-p l = Heights (rows_of l.rows.items l.rows.len) l.rows.len l.classes.of l.depths.of l.next

@@ -3,8 +3,8 @@ use Rattle.table.proofs.Deeps.{heights_more, heights_moved, missing_falls}
 use Rattle.table.proofs.deepening.sweep.Goals as goal
 use Rattle.table.proofs.deepening.sweep.Goals.{then-is_ready, else-is_ready}
 use Rattle.table.specs.Deepening.{missing}
-use Rattle.table.specs.Stored.{rows_of}
-use Rattle.table.specs.declared.numbers.Numbers.{Numbers}
+use Rattle.rows.specs.Stored.{rows_of}
+use Rattle.rows.specs.declared.numbers.Numbers.{Numbers}
 
 pub loop-p-preserved : goal.loop-p-preserved
 loop-p-preserved c =

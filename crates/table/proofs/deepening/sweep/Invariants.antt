@@ -1,7 +1,7 @@
 use Rattle.std.proofs.Common.{◌≤◌}
 use Rattle.table.proofs.deepening.sweep.Given as goal
 use Rattle.table.specs.Deepening.{Heights, missing}
-use Rattle.table.specs.Stored.{rows_of}
+use Rattle.rows.specs.Stored.{rows_of}
 
 abbrev pub invariant-loop-p : goal.invariant-loop-p
 invariant-loop-p l =

@@ -1,16 +1,23 @@
-use Rattle.std.proofs.Common.{ℕ, ◌<◌, ◌≤◌, List, length, sym, subst, arith}
+use Rattle.std.proofs.Common.{◌≡◌, ℕ, ◌<◌, List, sym, subst, arith}
 use Rattle.table.proofs.Hands.{coherent_at_hand}
-use Rattle.table.proofs.Joins.{apart_left, apart_right, apart_together, differ_unlike, merged_falls, represents_joined, sides_merged, sound_merged}
-use Rattle.table.proofs.Places.{counted}
+use Rattle.table.proofs.Joins.{apart_left, apart_right, apart_together, differ_unlike, joined_more, represents_joined}
+use Rattle.rows.proofs.Places.{counted}
 use Rattle.table.proofs.joining.close.Goals as goal
-use Rattle.table.specs.Joining.{Sides, Sound, labels}
+use Rattle.table.specs.Joining.{Apart, Sides, Sound, labels, merged}
 use Rattle.table.specs.Sheets.{sheet_of}
-use Rattle.table.specs.declared.numbers.Numbers.{Numbers}
-use Rattle.table.specs.declared.rows.Rows.{Rows}
-use Rattle.unification.specs.Sheets.{Sheet}
+use Rattle.rows.specs.declared.equations.Equations.{Equations}
+use Rattle.rows.specs.declared.numbers.Numbers.{Numbers}
+use Rattle.rows.specs.declared.rows.Rows.{Rows}
+use Rattle.unification.specs.Sheets.{Sheet, IsCoherent}
 
-long : (rows : Rows) (k : Numbers) → rows.len ≤ length k.of
-long rows k = let a = rows.within in let b = k.size in omega arith
+-- Joining what was found apart.
+found_more : (rows : Rows) (equations : Equations) (k : Numbers) (x y : ℕ) → IsCoherent (sheet_of rows equations) → Sound (sheet_of rows equations) rows.len k.of → Sides (sheet_of rows equations) k.of → Apart (sheet_of rows equations).rows rows.len k.of x y → (j : List ℕ) → j ≡ merged (sheet_of rows equations).rows k.of x y → Sound (sheet_of rows equations) rows.len j × Sides (sheet_of rows equations) j × (labels j rows.len < labels k.of rows.len)
+found_more rows equations k x y I S T o j e =
+    let s : Sheet = sheet_of rows equations in
+    subst (λ (z : List ℕ). Sound s rows.len z × Sides s z × (labels z rows.len < labels k.of rows.len)) (sym e)
+    (joined_more s rows.len I (sym (counted rows)) k.of x y (let a = rows.within in let b = k.size in omega arith) (S, T)
+    (apart_left s rows.len k.of x y rows.lower o) (apart_right s rows.len k.of x y rows.lower S o)
+    (apart_together s rows.len k.of x y S o) o.apart)
 
 pub find_apart-requires : goal.find_apart-requires
 find_apart-requires c = record { within = c.loop-x.invariant.0.within }
@@ -27,33 +34,20 @@ merge-requires c =
       within = c.loop-x.invariant.0.within;
     }
 
+pub pass_down-requires : goal.pass_down-requires
+pass_down-requires c =
+    let f = found_more c.args.rows.now c.args.equations.now c.loop-x.closed c.in-Some.x c.in-Some.y (coherent_at_hand c.requires.coherent) c.loop-x.invariant.0 c.loop-x.invariant.1 c.in-Some.ensures c.merge.new.classes.of c.merge.ensures in
+    record { coherent = c.requires.coherent; sound = f.0; sides = f.1 }
+
 pub loop-x-smaller : goal.loop-x-smaller
 loop-x-smaller c =
-    let rows = c.args.rows.now in
-    let s : Sheet = sheet_of rows c.args.equations.now in
-    let k = c.loop-x.closed.of in
-    let o = c.in-Some.ensures in
-    subst (λ (z : List ℕ). labels z rows.len < labels k rows.len) (sym c.merge.ensures)
-    (merged_falls s rows.len k c.in-Some.x c.in-Some.y (long rows c.loop-x.closed) c.loop-x.invariant.0
-    (apart_left s rows.len k c.in-Some.x c.in-Some.y rows.lower o)
-    (apart_right s rows.len k c.in-Some.x c.in-Some.y rows.lower c.loop-x.invariant.0 o) o.apart)
+    let f = found_more c.args.rows.now c.args.equations.now c.loop-x.closed c.in-Some.x c.in-Some.y (coherent_at_hand c.requires.coherent) c.loop-x.invariant.0 c.loop-x.invariant.1 c.in-Some.ensures c.merge.new.classes.of c.merge.ensures in
+    let l = f.2 in
+    let m = c.pass_down.ensures.labels in
+    omega arith
 
 pub loop-x-preserved : goal.loop-x-preserved
-loop-x-preserved c =
-    let rows = c.args.rows.now in
-    let s : Sheet = sheet_of rows c.args.equations.now in
-    let k = c.loop-x.closed.of in
-    let o = c.in-Some.ensures in
-    let n = counted rows in
-    let l = long rows c.loop-x.closed in (
-      subst (Sound s rows.len) (sym c.merge.ensures)
-          (sound_merged s rows.len k c.in-Some.x c.in-Some.y l c.loop-x.invariant.0
-          (apart_left s rows.len k c.in-Some.x c.in-Some.y rows.lower o)
-          (apart_right s rows.len k c.in-Some.x c.in-Some.y rows.lower c.loop-x.invariant.0 o)
-          (apart_together s rows.len k c.in-Some.x c.in-Some.y c.loop-x.invariant.0 o)),
-      subst (Sides s) (sym c.merge.ensures)
-          (sides_merged s rows.len (coherent_at_hand c.requires.coherent) k c.in-Some.x c.in-Some.y (omega arith) c.loop-x.invariant.1),
-    )
+loop-x-preserved c = (c.pass_down.ensures.sound, c.pass_down.ensures.sides)
 
 pub find_unequal-requires : goal.find_unequal-requires
 find_unequal-requires c = record { within = c.loop-x.invariant.0.within; first = c.loop-x.invariant.0.first }

@@ -1,10 +1,10 @@
 use Rattle.std.proofs.Common.{refl, arith}
 use Rattle.table.proofs.Equated.{facts_after, put_down}
 use Rattle.table.proofs.Facts.{facts_moved}
-use Rattle.table.proofs.Places.{equations_length}
+use Rattle.rows.proofs.Places.{equations_length}
 use Rattle.table.proofs.table.Table.commit.Goals as goal
 use Rattle.table.specs.Sheets.{sheet_of}
-use Rattle.table.specs.Stored.{equation_of}
+use Rattle.rows.specs.Stored.{equation_of}
 use Rattle.unification.specs.Sheets.{equated}
 
 pub push-requires : goal.push-requires
@@ -14,8 +14,8 @@ push-requires c =
     let r = c.requires.room in
     record { room = omega arith }
 
-pub returns : goal.returns
-returns c = put_down c.args.self.now c.args.e c.push.new.self c.push.ensures.items
+pub returns-clause-sheet : goal.returns-clause-sheet
+returns-clause-sheet c = put_down c.args.self.now c.args.e c.push.new.self c.push.ensures.items
 
 pub invariant_of-self : goal.invariant_of-self
 invariant_of-self c =

@@ -1,7 +1,7 @@
 use Rattle.std.proofs.Common.{◌+◌, ◌<◌, ◌≤◌, get_or}
 use Rattle.fault.specs.Firsts.{Below}
 use Rattle.table.proofs.table.Table.depth_above.Given as goal
-use Rattle.table.specs.Stored.{depth_at}
+use Rattle.rows.specs.Stored.{depth_at}
 
 abbrev pub invariant-loop-p : goal.invariant-loop-p
 invariant-loop-p l =

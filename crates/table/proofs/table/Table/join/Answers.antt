@@ -2,12 +2,13 @@ use Rattle.std.proofs.Common.{ℕ, ◌<◌, ◌≤◌, List, length, sym, subst,
 use Rattle.table.proofs.Equated.{put_down}
 use Rattle.table.proofs.Hands.{coherent_at_hand, represents_at_hand}
 use Rattle.table.proofs.Joins.{sides_equated, sound_joined}
-use Rattle.table.proofs.Places.{counted}
+use Rattle.rows.proofs.Places.{counted}
 use Rattle.table.proofs.table.Table.join.Goals as goal
 use Rattle.table.specs.Joining.{Sides, Sound, merged}
 use Rattle.table.specs.Sheets.{sheet_of}
-use Rattle.table.specs.Stored.{equation_of}
-use Rattle.table.specs.declared.equations.Equation.{Equation}
+use Rattle.rows.specs.Limits.{most_rows}
+use Rattle.rows.specs.Stored.{equation_of}
+use Rattle.rows.specs.declared.equations.Equation.{Equation}
 use Rattle.table.specs.declared.table.Table.{Table}
 use Rattle.unification.proofs.Bridges.{equated_coherent}
 use Rattle.unification.specs.Sheets.{Sheet, IsCoherent, equated}
@@ -23,7 +24,7 @@ module _ (t : Table) (e : Equation) (hl : e.left < t.rows.len) (hr : e.right < t
   right : e.right < length before.rows
   right = let n = counted t.rows in omega arith
 
-  few : length before.rows ≤ 512
+  few : length before.rows ≤ most_rows
   few = let n = counted t.rows in let a = t.rows.within in omega arith
 
   long : length before.rows ≤ length t.classes.of

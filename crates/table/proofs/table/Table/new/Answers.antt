@@ -2,7 +2,7 @@ use Rattle.std.proofs.Common.{◌≡◌, sym, subst, arith}
 use Rattle.table.proofs.Fresh.{fresh_depth, fresh_represents, no_rows}
 use Rattle.table.proofs.table.Table.new.Goals as goal
 use Rattle.table.specs.Sheets.{sheet_of}
-use Rattle.table.specs.Stored.{at, depth_at}
+use Rattle.rows.specs.Stored.{at, depth_at}
 use Rattle.unification.proofs.Bridges.{fresh_coherent}
 use Rattle.unification.specs.Closures.{IsDepth}
 use Rattle.unification.specs.Sheets.{Sheet, IsCoherent, fresh}

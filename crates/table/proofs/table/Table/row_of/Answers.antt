@@ -1,6 +1,6 @@
 use Rattle.std.proofs.Common.{arith}
 use Rattle.table.proofs.table.Table.row_of.Goals as goal
-use Rattle.table.specs.Stored.{rows_of}
+use Rattle.rows.specs.Stored.{rows_of}
 use Rattle.unification.proofs.Reading.{at_within}
 use Rattle.unification.specs.Sheets.{variable}
 

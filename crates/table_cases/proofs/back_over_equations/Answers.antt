@@ -1,0 +1,7 @@
+use Rattle.table_cases.proofs.back_over_equations.Goals as goal
+
+-- Each call keeps that composed rows have as many arguments as their representatives.
+pub back-requires : goal.back-requires
+back-requires g c =
+    c.equate-2.ensures (c.equate.ensures (c.variable-2.ensures.uniform (c.compose-3.ensures.uniform
+    (c.compose-2.ensures.uniform (c.compose.ensures.uniform (c.variable.ensures.uniform c.new-t.ensures.uniform))))))
