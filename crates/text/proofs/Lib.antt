@@ -5,7 +5,9 @@ pub mod Grammatical
 pub mod Depths
 pub mod Unique
 pub mod Tally
+pub mod Listing
 pub mod Walk
+pub mod Itemizing
 pub mod Passing
 pub mod Terms
 pub mod Judging

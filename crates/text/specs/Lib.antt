@@ -12,3 +12,5 @@ pub mod Tokens
 pub mod Course
 pub mod Remains
 pub mod Lookups
+pub mod Listings
+pub mod Items

@@ -5,6 +5,7 @@ mod brackets;
 mod causes;
 mod check;
 mod demand;
+mod items;
 mod lexer;
 mod lookup;
 mod reader;
@@ -13,3 +14,4 @@ mod words;
 
 pub use causes::TextFault;
 pub use check::check_text;
+pub use items::{Item, ItemAt, next_item};
