@@ -1,0 +1,4 @@
+pub mod Stacks
+pub mod Steps
+pub mod Progress
+pub mod Settled

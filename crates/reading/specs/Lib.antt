@@ -1,0 +1,5 @@
+pub mod Faults
+pub mod Stacks
+pub mod Frames
+pub mod Steps
+pub mod Reads

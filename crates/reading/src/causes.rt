@@ -1,0 +1,39 @@
+ghost use Rattle.reading.specs.Faults.{read_refusal};
+ghost use Rattle.reading.specs.declared.causes.ReadFault.TheVariants.{Text};
+ghost use Rattle.std.specs.Prelude.{◌≡◌};
+
+use fault::{Fault, Layer};
+use text::TextFault;
+
+/// Why a text was not read.
+#[derive(Clone, Copy, PartialEq, Eq, Debug)]
+pub enum ReadFault {
+    /// The text was refused.
+    Text(TextFault),
+    /// There would be more than 512 rows.
+    Full,
+}
+
+impl ReadFault {
+    /// The refusal of a text that stands in the layer.
+    pub fn fault(self, layer: Layer) -> Fault
+        ensures { result ≡ read_refusal layer self }
+    {
+        match self {
+            ReadFault::Text(fault) => fault.fault(layer),
+            ReadFault::Full => Fault {
+                layer,
+                number: 24,
+                place: 0,
+            },
+        }
+    }
+}
+
+impl From<TextFault> for ReadFault {
+    ghost from_gives = { λ f r. r ≡ Text f };
+
+    fn from(fault: TextFault) -> ReadFault {
+        ReadFault::Text(fault)
+    }
+}

@@ -1,0 +1,7 @@
+mod Arranged
+mod Consistency
+mod Equated
+mod Gathering
+mod Promising
+mod Running
+mod Single

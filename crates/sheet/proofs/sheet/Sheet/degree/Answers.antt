@@ -1,0 +1,13 @@
+use Rattle.std.proofs.Common.{sym, subst}
+use Rattle.sheet.proofs.sheet.Sheet.degree.Goals as goal
+use Rattle.table.specs.Sheets.{sheet_of}
+use Rattle.unification.proofs.Tables.{gathered_degree}
+use Rattle.unification.specs.Closures.{IsDegree}
+
+pub returns : goal.returns
+returns g c =
+    let S = g.V.Degree.Scale.operations in
+    let t = c.args.self.now.table in
+    let V = g.V.Vocabulary.model c.args.self.now.vocabulary.now in
+    subst (IsDegree S V (sheet_of t.rows t.equations)) (sym c.gather.ensures.value)
+    (gathered_degree g.met.V.Degree.Scale.lawful c.gather.ensures.laws c.classes.ensures.represents)
