@@ -3,12 +3,12 @@ use Rattle.std.proofs.Common.{◌≡◌, ℕ, ◌<◌, Bool, true, false, cond, 
 use Rattle.std.proofs.ByRecursion.{IsAscii-from_all}
 use Rattle.std.proofs.lemmas.Bool.{and_parts, both_ways, eq-eqb, ltb-true}
 use Rattle.std.proofs.lemmas.Str.{IsUtf8-from_ascii}
-use Rattle.std.specs.List.{AllByRecursion as All}
+use Rattle.std.specs.List.{AllByRecursion}
 use Rattle.script.specs.Fields.{AllNumbers, fields, Solid, Parted, Split}
 use Rattle.script.specs.Verbs.{spelled}
 use Rattle.script.specs.Lines.{Asked, variable, compose, read, equate, back, mark, degree, resolve, verb, behind, named, written, IsLine, Found, Follows}
 use Rattle.script.specs.declared.line.Line.{Line}
-use Rattle.script.specs.declared.line.Line.TheVariants.{Variable as aVariable, Compose as aCompose, Read as aRead, Equate as anEquate, Back as aBack, Mark as aMark, Degree as aDegree, Resolve as aResolve, Unknown}
+use Rattle.script.specs.declared.line.Line.TheVariants.{Variable as a_variable, Compose as a_compose, Read as a_read, Equate as an_equate, Back as a_back, Mark as a_mark, Degree as a_degree, Resolve as a_resolve, Unknown}
 use Rattle.script.specs.declared.verb.Verb.{Verb}
 use Rattle.script.specs.declared.verb.Verb.TheVariants.{Variable, Compose, Read, Equate, Back, Mark, Degree, Resolve}
 use Rattle.script.proofs.Splits.{split_solid, first_field, first_is}
@@ -63,7 +63,7 @@ abbrev low : List ℕ → Bool
 low [] = true
 low (b ∷ bs) = ltb b 128 && low bs
 
-low_tested : (w : List ℕ) → low w ≡ true → All (λ b. b < 128) w
+low_tested : (w : List ℕ) → low w ≡ true → AllByRecursion (λ b. b < 128) w
 low_tested [] h = tt
 low_tested (b ∷ bs) h = let p = and_parts (ltb b 128) (low bs) h in (ltb-true b 128 p.0, low_tested bs p.1)
 
@@ -180,14 +180,14 @@ shaped v t a f = subst (λ (w : Verb). Shape w t) f.verbed (go a f.numbers f.is)
     go (resolve p) n e = (p, n, e)
 
 pub found_map : (P Q : Asked → Type 0) → ((a : Asked) → P a → Q a) → ((a : Asked) → Q a → P a) → (r : Line) → Found P r → Found Q r
-found_map P Q f g (aVariable x) h = f (variable x) h
-found_map P Q f g (aCompose w rows) h = (h.0, h.1, f (compose w h.0) h.2)
-found_map P Q f g (aRead t) h = f (read t.now) h
-found_map P Q f g (anEquate p q) h = f (equate p q) h
-found_map P Q f g (aBack p q) h = f (back p q) h
-found_map P Q f g aMark h = f mark h
-found_map P Q f g aDegree h = f degree h
-found_map P Q f g (aResolve p) h = f (resolve p) h
+found_map P Q f g (a_variable x) h = f (variable x) h
+found_map P Q f g (a_compose w rows) h = (h.0, h.1, f (compose w h.0) h.2)
+found_map P Q f g (a_read t) h = f (read t.now) h
+found_map P Q f g (an_equate p q) h = f (equate p q) h
+found_map P Q f g (a_back p q) h = f (back p q) h
+found_map P Q f g a_mark h = f mark h
+found_map P Q f g a_degree h = f degree h
+found_map P Q f g (a_resolve p) h = f (resolve p) h
 found_map P Q f g Unknown h = λ a q. h a (g a q)
 
 -- From what stands behind the verb to the whole line.

@@ -4,10 +4,10 @@ use Rattle.script.specs.declared.answer.Answer.{Answer}
 use Rattle.script.specs.declared.answer.Answer.TheVariants.{Row, Done, Mark, Degree, Refused, Unknown}
 
 -- The line that answers a line.
-abbrev pub answerLine : Answer → List ℕ
-answerLine (Row n) = codes "row " ++ decimal n
-answerLine Done = codes "ok"
-answerLine (Mark rows equations) = codes "mark " ++ (decimal rows ++ (codes " " ++ decimal equations))
-answerLine (Degree code) = codes "degree " ++ decimal code
-answerLine (Refused fault) = fault_line fault
-answerLine Unknown = codes "unknown line"
+abbrev pub answer_line : Answer → List ℕ
+answer_line (Row n) = codes "row " ++ decimal n
+answer_line Done = codes "ok"
+answer_line (Mark rows equations) = codes "mark " ++ (decimal rows ++ (codes " " ++ decimal equations))
+answer_line (Degree code) = codes "degree " ++ decimal code
+answer_line (Refused fault) = fault_line fault
+answer_line Unknown = codes "unknown line"

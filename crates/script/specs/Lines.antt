@@ -4,7 +4,7 @@ use Rattle.script.specs.Verbs.{spelled}
 use Rattle.script.specs.declared.line.Line.{Line}
 use Rattle.script.specs.declared.line.Line.TheVariants.{Variable, Compose, Read, Equate, Back, Mark, Degree, Resolve, Unknown}
 use Rattle.script.specs.declared.verb.Verb.{Verb}
-use Rattle.script.specs.declared.verb.Verb.TheVariants.{Variable as toVariable, Compose as toCompose, Read as toRead, Equate as toEquate, Back as toBack, Mark as toMark, Degree as toDegree, Resolve as toResolve}
+use Rattle.script.specs.declared.verb.Verb.TheVariants.{Variable as to_variable, Compose as to_compose, Read as to_read, Equate as to_equate, Back as to_back, Mark as to_mark, Degree as to_degree, Resolve as to_resolve}
 
 -- What a line asks for.
 pub data Asked : Type 0 where
@@ -27,14 +27,14 @@ pub data Asked : Type 0 where
 
 -- The verb of what is asked.
 abbrev pub verb : Asked → Verb
-verb (variable x) = toVariable
-verb (compose w ps) = toCompose
-verb (read t) = toRead
-verb (equate p q) = toEquate
-verb (back r e) = toBack
-verb mark = toMark
-verb degree = toDegree
-verb (resolve p) = toResolve
+verb (variable x) = to_variable
+verb (compose w ps) = to_compose
+verb (read t) = to_read
+verb (equate p q) = to_equate
+verb (back r e) = to_back
+verb mark = to_mark
+verb degree = to_degree
+verb (resolve p) = to_resolve
 
 -- What stands behind the verb: fields, or the text behind one blank.
 abbrev pub behind : Asked → List ℕ

@@ -1,4 +1,4 @@
-ghost use Rattle.script.specs.Answers.{answerLine};
+ghost use Rattle.script.specs.Answers.{answer_line};
 ghost use Rattle.std.specs.Prelude.{Some};
 
 use fault::Fault;
@@ -22,7 +22,7 @@ pub enum Answer {
 }
 
 impl fmt::Display for Answer {
-    ghost output = { λ a. Some (answerLine a) };
+    ghost output = { λ a. Some (answer_line a) };
 
     /// Writes the answer as a line, without its end.
     fn fmt<W: fmt::Write>(&self, f: &mut fmt::Formatter<W>) -> fmt::Result {

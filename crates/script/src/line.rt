@@ -1,7 +1,7 @@
 ghost use Rattle.std.specs.Prelude.{◌≡◌, ℕ, List, [], ◌∷◌, Decides, MatchOption, ◌≢◌};
 ghost use Rattle.script.specs.Fields.{AllNumbers, Rows, fields};
 ghost use Rattle.script.specs.Lines.{Follows, Found, Parsed};
-ghost use Rattle.script.specs.declared.verb.Verb.TheVariants.{Compose as toCompose};
+ghost use Rattle.script.specs.declared.verb.Verb.TheVariants.{Compose as to_compose};
 
 use crate::field::{after_blank, next_number, split_blank};
 use crate::verb::{Verb, verb_named};
@@ -69,7 +69,7 @@ fn are_numbers(bytes: &[u8]) -> bool
 
 /// The line of a word and rows, by what stands behind its verb.
 fn compose_line<'a>(rest: &'a [u8]) -> Line<'a>
-    ensures { Found (Follows toCompose rest.now) result }
+    ensures { Found (Follows to_compose rest.now) result }
 {
     match next_number(rest) {
         Some((word, rows)) => {

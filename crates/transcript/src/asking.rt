@@ -1,0 +1,18 @@
+use script::Line;
+use sheet::Call;
+
+/// The call that a line asks for, over a book, with the rows of its fields. A line that asks for nothing becomes a look at the mark,
+/// which changes nothing, so that each line has its outcome.
+pub fn call_of<'t, 'r, B>(line: Line<'t>, rows: &'r [u16], book: &'t B) -> Call<'t, 'r, B> {
+    match line {
+        Line::Variable(label) => Call::Variable(label),
+        Line::Compose(word, _) => Call::Compose(word, rows),
+        Line::Read(text) => Call::Read(text, book),
+        Line::Equate(p, q) => Call::Equate(p, q),
+        Line::Back(rows, equations) => Call::Back(rows, equations),
+        Line::Mark => Call::Mark,
+        Line::Degree => Call::Degree,
+        Line::Resolve(p) => Call::Resolve(p),
+        Line::Unknown => Call::Mark,
+    }
+}
