@@ -1,9 +1,13 @@
+ghost use Rattle.transcript.specs.Asking.{AsksFor};
+
 use script::Line;
 use sheet::Call;
 
 /// The call that a line asks for, over a book, with the rows of its fields. A line that asks for nothing becomes a look at the mark,
 /// which changes nothing, so that each line has its outcome.
-pub fn call_of<'t, 'r, B>(line: Line<'t>, rows: &'r [u16], book: &'t B) -> Call<'t, 'r, B> {
+pub fn call_of<'t, 'r, B>(line: Line<'t>, rows: &'r [u16], book: &'t B) -> Call<'t, 'r, B>
+    ensures { AsksFor line.entry rows.now book.now result }
+{
     match line {
         Line::Variable(label) => Call::Variable(label),
         Line::Compose(word, _) => Call::Compose(word, rows),
