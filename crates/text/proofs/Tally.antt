@@ -1,12 +1,12 @@
 -- The arguments of a word, counted by passing over their bytes.
-use Rattle.std.proofs.Common.{◌≡◌, ℕ, zero, suc, ◌+◌, ◌-◌, ◌/◌, ◌%◌, ◌<◌, Bool, true, false, cond, ◌&&◌, eqb, ltb, List, [], ◌∷◌, ◌++◌, length, get_or, drop, sym, refl, ap, ◌∙◌, subst, ⊎_elim, append_assoc, add-one, arith}
+use Rattle.std.proofs.Common.{◌≡◌, ℕ, zero, suc, ◌+◌, ◌-◌, ◌/◌, ◌%◌, ◌<◌, Bool, true, false, cond, ◌&&◌, eqb, ltb, List, [], ◌∷◌, ◌++◌, length, get_or, take, drop, sym, refl, ap, ◌∙◌, subst, ⊎_elim, append_assoc, add-one, arith}
 use Rattle.std.proofs.lemmas.List.{at_drop_more}
 use Rattle.std.proofs.lemmas.Bool.{and_parts, and_from, both_ways, cases_lt, lt-ltb, le-ltb, ne_eqb}
 use Rattle.text.proofs.Going.{opens, digit_is}
 use Rattle.std.proofs.lemmas.Bool.Decides.{nat_tests}
 use Rattle.text.specs.Phrases.{decimal, Phrase, Phrases, variable, word, none, more, count, bytes, bracketed, following, Sound, AllSound}
 use Rattle.text.specs.Tokens.{in_word, digit, wordy, Stop, parts, Ended}
-use Rattle.text.proofs.Spelling.{spelling_word}
+use Rattle.text.proofs.Spelling.{one_on, spelling_word, to_end}
 use Rattle.text.proofs.Unique.{heads, tails, word_wordy}
 
 -- With d brackets open inside the list of arguments, and c arguments begun: how many there are.
@@ -120,7 +120,12 @@ no_bracket x [] h e = let z : ◌≡◌ {A = ℕ} 0 1 = cc in omega arith
 no_bracket x (b ∷ behind) h e = both_ways false refl (ap parts (heads 40 b x behind e) ∙ h)
 
 -- With a `(` behind the word, what is counted is what is given.
-pub some_given : (ps : Phrases) (behind rest : List ℕ) → AllSound ps → Ended behind → 40 ∷ rest ≡ bracketed ps ++ behind → tally 0 1 rest ≡ count ps
+some_given : (ps : Phrases) (behind rest : List ℕ) → AllSound ps → Ended behind → 40 ∷ rest ≡ bracketed ps ++ behind → tally 0 1 rest ≡ count ps
 some_given none behind rest s h e = absurd (no_bracket rest behind h e)
 some_given (more p ps) behind rest s h e =
     ap (tally 0 1) (tails 40 40 rest ((bytes p ++ following ps) ++ behind) e) ∙ tally_arguments p ps behind s.0 s.1
+
+-- So it is of bytes that begin with a `(`, from behind it on.
+pub given_inside : (ps : Phrases) (behind bytes : List ℕ) → AllSound ps → Ended behind → 0 < length bytes → get_or bytes 0 0 ≡ 40 → bytes ≡ bracketed ps ++ behind → tally 0 1 (take (length bytes - 1) (drop 1 bytes)) ≡ count ps
+given_inside ps behind bytes s h some first e =
+    ap (tally 0 1) (to_end bytes 1) ∙ some_given ps behind (drop 1 bytes) s h (sym (one_on bytes 0 40 some first) ∙ e)
