@@ -1,19 +1,19 @@
 ghost use Rattle.fault.specs.Layers.{layer_number};
 ghost use Rattle.std.specs.Prelude.{◌≡◌};
 
-/// What a refusal speaks of.
+/// What a refusal speaks of, by its number.
 #[derive(Clone, Copy, PartialEq, Eq, Debug)]
 pub enum Layer {
     /// A book, a family tree, a dialect or a floor.
-    Vocabulary,
+    Vocabulary = 1,
     /// The sentence, or a text that is read alone.
-    Sentence,
+    Sentence = 2,
     /// The message.
-    Message,
+    Message = 3,
     /// A call on the sheet, or the showing of a row.
-    Sheet,
+    Sheet = 4,
     /// The record.
-    Record,
+    Record = 5,
 }
 
 impl Layer {
@@ -21,12 +21,6 @@ impl Layer {
     pub fn number(self) -> u8
         ensures { result ≡ layer_number self }
     {
-        match self {
-            Layer::Vocabulary => 1,
-            Layer::Sentence => 2,
-            Layer::Message => 3,
-            Layer::Sheet => 4,
-            Layer::Record => 5,
-        }
+        self as u8
     }
 }

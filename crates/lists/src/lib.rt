@@ -3,6 +3,9 @@
 
 mod count;
 mod fixed;
+mod list;
+mod methods;
 
 pub use count::fits;
 pub use fixed::kept;
+pub use list::List;

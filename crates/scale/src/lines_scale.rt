@@ -1,5 +1,6 @@
 ghost use Rattle.scale.specs.Degrees.{line_operations};
 ghost use Rattle.scale.specs.Laws.{line_laws};
+ghost use Rattle.std.specs.Prelude.{refl};
 
 use crate::lines::Lines;
 use crate::scale::Scale;
@@ -8,6 +9,8 @@ impl Scale for Lines {
     ghost operations = { line_operations };
 
     ghost lawful = { line_laws };
+
+    ghost equal = { λ _ _. refl };
 
     fn top() -> Lines {
         Lines { set: 65535 }
@@ -22,10 +25,6 @@ impl Scale for Lines {
         Lines {
             set: self.set & other.set,
         }
-    }
-
-    fn same(self, other: Lines) -> bool {
-        self.set == other.set
     }
 
     fn from_code(code: u16) -> Option<Lines> {

@@ -1,5 +1,6 @@
 ghost use Rattle.scale.specs.Degrees.{mark_operations};
 ghost use Rattle.scale.specs.Laws.{mark_laws};
+ghost use Rattle.std.specs.Prelude.{refl};
 
 use crate::mark::Mark;
 use crate::scale::Scale;
@@ -8,6 +9,8 @@ impl Scale for Mark {
     ghost operations = { mark_operations };
 
     ghost lawful = { mark_laws };
+
+    ghost equal = { λ _ _. refl };
 
     fn top() -> Mark {
         Mark { value: 1000 }
@@ -22,10 +25,6 @@ impl Scale for Mark {
         Mark {
             value: self.value.min(other.value),
         }
-    }
-
-    fn same(self, other: Mark) -> bool {
-        self.value == other.value
     }
 
     fn from_code(code: u16) -> Option<Mark> {

@@ -1,8 +1,8 @@
-ghost use Rattle.std.specs.Prelude.{◌≡◌, ℕ, Decides};
+ghost use Rattle.std.specs.Prelude.{◌≡◌, ℕ};
 ghost use Rattle.scale.specs.Scales.{IsCode, IsScale, Operations};
 
-/// A scale of degrees, by the type of its degrees: how much two things are alike.
-pub trait Scale: Copy {
+/// A scale of degrees, by the type of its degrees: how much two things are alike. `==` is its exact test of equality.
+pub trait Scale: Copy + Eq {
     ghost operations: { Operations Self };
 
     /// Wholly alike.
@@ -17,16 +17,13 @@ pub trait Scale: Copy {
     fn meet(self, other: Self) -> Self
         ensures { result ≡ operations.meet self other };
 
-    /// Whether the two degrees are equal.
-    fn same(self, other: Self) -> bool
-        ensures value { result ≡ operations.same self other }
-        ensures test { Decides result (self ≡ other) };
-
     /// The degree that the number is the code of, if any.
     fn from_code(code: u16) -> Option<Self>
         ensures { result ≡ operations.decoded code };
 
     ghost lawful: { IsScale operations };
+
+    ghost equal: { (d e : Self) → Self.eq d e ≡ operations.same d e };
 }
 
 /// A scale each of whose degrees has one code, the inverse of `from_code`.

@@ -11,6 +11,7 @@ pub fn arities<V: Vocabulary>(words: &V) -> [u8; MOST_WORDS]
     ensures rest { (k : ℕ) → (V.Vocabulary.model words.now).count ≤ k → slice_index result k ≡ 0 }
 {
     let mut list = [0; MOST_WORDS];
+    // over the words, and not the places: `array::from_fn` was tried, and what its closure answers could not be read in the proof
     for f in 0..words.count() {
         list[f as usize] = words.arity(f).unwrap_or(0);
     }

@@ -16,12 +16,7 @@ fn may_stand(k: usize, byte: u8) -> bool
 pub fn spells(word: &[u8]) -> bool
     ensures { Decides result (Signs word.now) }
 {
-    for (k, byte) in word.iter().enumerate() {
-        if !may_stand(k, *byte) {
-            return false;
-        }
-    }
-    true
+    word.iter().enumerate().all(|(k, byte)| may_stand(k, *byte))
 }
 
 /// Whether the two spellings are the same.

@@ -1,0 +1,71 @@
+ghost use Rattle.lists.specs.Entries.{entries};
+ghost use Rattle.std.specs.Prelude.{◌≡◌, ◌<◌, ◌≤◌, [], ◌∷◌, ◌++◌, length, take, MatchOption};
+
+use crate::list::List;
+
+impl<T: Copy, const N: usize> List<T, N> {
+    /// The empty list. The blank fills what is not used.
+    pub fn new(blank: T) -> Self
+        ensures { entries result ≡ [] }
+    {
+        List {
+            items: [blank; N],
+            len: 0,
+        }
+    }
+
+    /// The list of the values in a slice.
+    pub fn from_slice(values: &[T], blank: T) -> Self
+        requires { length values.now ≤ N }
+        ensures { entries result ≡ values.now }
+    {
+        let mut items = [blank; N];
+        items[..values.len()].copy_from_slice(values);
+        List {
+            items,
+            len: values.len(),
+        }
+    }
+
+    /// How many values there are.
+    pub fn len(&self) -> usize
+        ensures value { result ≡ length (entries self.now) }
+        ensures bound { result ≤ N }
+    {
+        self.len
+    }
+
+    /// The values, in their order.
+    pub fn as_slice(&self) -> &[T]
+        ensures { result.now ≡ entries self.now }
+    {
+        &self.items[..self.len]
+    }
+
+    /// One more value, at the end.
+    pub fn push(&mut self, value: T)
+        requires { length (entries self.old) < N }
+        ensures { entries self.new ≡ entries self.old ++ value ∷ [] }
+    {
+        self.items[self.len] = value;
+        self.len += 1;
+    }
+
+    /// Takes the last value off, if there is one.
+    pub fn pop(&mut self) -> Option<T>
+        ensures { MatchOption result
+            (entries self.old ≡ [])
+            (λ x. entries self.old ≡ entries self.new ++ x ∷ []) }
+    {
+        let last = *self.as_slice().last()?;
+        self.len -= 1;
+        Some(last)
+    }
+
+    /// Keeps the first `n` values; all of them, where there are no more.
+    pub fn truncate(&mut self, n: usize)
+        ensures { entries self.new ≡ take n (entries self.old) }
+    {
+        self.len = self.len.min(n);
+    }
+}
