@@ -90,7 +90,10 @@ fn labels_and_rows(rt: HostRuntime) {
     assert_eq!(rt; t.row_of(98), None);
     assert_eq!(rt; t.variable(100), Err(RowFault::Label));
     assert_eq!(rt; t.compose(0, &[0, 1, 2]), Err(RowFault::Missing(1)));
-    assert_eq!(rt; t.compose(0, &[9, 0, 0, 0, 0, 0, 0]), Err(RowFault::TooMany));
+    assert_eq!(rt;
+        t.compose(0, &[9, 0, 0, 0, 0, 0, 0]),
+        Err(RowFault::TooMany)
+    );
     assert_eq!(rt; t.compose(0, &[0, 0, 0, 0, 0, 0]), Ok(1));
     assert_eq!(rt; t.row_count(), 2);
 }
