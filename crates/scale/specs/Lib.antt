@@ -1,3 +1,4 @@
+pub mod Told
 pub mod Scales
 pub mod Degrees
 pub mod Faults

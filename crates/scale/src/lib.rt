@@ -9,6 +9,7 @@ mod mark;
 mod mark_scale;
 mod offer;
 mod scale;
+mod told;
 
 pub use causes::DegreeFault;
 pub use lines::Lines;
