@@ -1,8 +1,10 @@
-use Rattle.std.specs.Prelude.{◌≡◌, ℕ, ◌+◌, ◌*◌, ◌<◌, ◌≤◌, ◌⊎◌, List, [], map, length, take, Some, None, slice_index, slice_index_or}
+use Rattle.std.specs.Prelude.{◌≡◌, ℕ, ◌+◌, ◌*◌, ◌<◌, ◌≤◌, ◌⊎◌, List, [], map, length, Some, None, slice_index}
 use Rattle.std.proofs.Math.Option.{Option, none, some}
 use Rattle.std.proofs.Math.ListN.{get_elem?}
 use Rattle.std.specs.declared.option.Option as answer
-use Rattle.rows.specs.Limits.{most_arguments, most_rows}
+use Rattle.lists.specs.Entries.{entries}
+use Rattle.lists.specs.declared.list.List as fixed
+use Rattle.rows.specs.Limits.{most_equations, most_rows}
 use Rattle.rows.specs.declared.equations.Equation.{Equation}
 use Rattle.rows.specs.declared.row.Row.{Row}
 use Rattle.rows.specs.declared.row.Row.TheVariants.{Variable, Composed}
@@ -12,38 +14,26 @@ use Rattle.unification.specs.Sheets.{variable, composed}
 
 -- How rows and equations are stored.
 
--- How many arguments a stored row has, and the slots of which the first so many hold them.
-abbrev pub count_of : Row → ℕ
-count_of (Variable x) = 0
-count_of (Composed f k xs) = k
-
-abbrev pub slots_of : Row → List ℕ
-slots_of (Variable x) = []
-slots_of (Composed f k xs) = xs
-
--- The arguments are in the slots, and no more than a row can have.
-abbrev pub InSlots : Row → Type 0
-InSlots r = (count_of r ≤ most_arguments) × (count_of r ≤ length (slots_of r))
-
--- This holds of the first n rows.
-abbrev pub Slots : List Row → ℕ → Type 0
-Slots items n = (p : ℕ) → p < n → InSlots (slice_index_or items p (Variable 0))
-
 -- The row that is stored so.
 abbrev pub row_of : Row → theory.Row
 row_of (Variable x) = variable x
-row_of (Composed f k xs) = composed f (take k xs)
+row_of (Composed f xs) = composed f (entries xs)
 
--- The first n rows.
-abbrev pub rows_of : List Row → ℕ → List theory.Row
-rows_of items n = map row_of (take n items)
+-- The rows of a list.
+abbrev pub rows_of : {n : ℕ} → fixed.List Row n → List theory.Row
+rows_of items = map row_of (entries items)
 
+-- The equation that is stored so.
 abbrev pub equation_of : Equation → theory.Equation
 equation_of e = record { left = e.left; right = e.right }
 
--- The first m equations.
-abbrev pub equations_of : List Equation → ℕ → List theory.Equation
-equations_of items m = map equation_of (take m items)
+-- Equations in fixed memory.
+abbrev pub Equations : Type 0
+Equations = fixed.List Equation most_equations
+
+-- The equations of a list.
+abbrev pub equations_of : {n : ℕ} → fixed.List Equation n → List theory.Equation
+equations_of items = map equation_of (entries items)
 
 -- The equation at position i is between numbers below n; or it is not.
 abbrev pub Inside : List theory.Equation → ℕ → ℕ → Type 0
@@ -58,6 +48,7 @@ args_of none = []
 args_of (some (variable x)) = []
 args_of (some (composed f xs)) = xs
 
+-- The arguments of the row at a place.
 abbrev pub args_at : List theory.Row → ℕ → List ℕ
 args_at rows p = args_of (get_elem? rows p)
 

@@ -7,7 +7,7 @@ mod numbers;
 mod row;
 mod rows;
 
-pub use equations::{Equation, Equations};
+pub use equations::{Equation, Equations, find_outside};
 pub use limits::{LABELS, MOST_EQUATIONS, MOST_ROWS, SLOTS};
 pub use numbers::Numbers;
 pub use row::Row;

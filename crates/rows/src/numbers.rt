@@ -4,6 +4,7 @@ ghost use Rattle.rows.specs.Labels.{renamed};
 ghost use Rattle.rows.specs.Limits.{most_rows};
 
 use crate::limits::MOST_ROWS;
+use std::array;
 
 /// A number for each row.
 #[derive(Clone, Copy)]
@@ -24,11 +25,9 @@ impl Numbers {
     pub fn own() -> Self
         ensures { Below most_rows (λ p. slice_index result.of p ≡ p) }
     {
-        let mut of = [0; MOST_ROWS];
-        for p in 0..MOST_ROWS {
-            of[p] = p as u16;
+        Numbers {
+            of: array::from_fn(|p| p as u16),
         }
-        Numbers { of }
     }
 
     /// The number of row `p`.

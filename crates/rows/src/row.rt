@@ -1,39 +1,43 @@
-ghost use Rattle.std.specs.Prelude.{◌≡◌, ◌+◌, ◌*◌, ◌<◌, Decides, slice_index};
-ghost use Rattle.rows.specs.Limits.{most_arguments, most_rows};
-ghost use Rattle.rows.specs.Stored.{count_of, row_of, slots_of, word_of};
+ghost use Rattle.std.specs.Prelude.{◌≡◌, ◌+◌, ◌*◌, ◌<◌, Decides, length, slice_index};
+ghost use Rattle.rows.specs.Limits.{most_rows};
+ghost use Rattle.rows.specs.Stored.{args_of, row_of, word_of};
 ghost use Rattle.unification.specs.Closures.{kind};
 ghost use Rattle.unification.specs.Sheets.{variable};
 ghost use Rattle.std.proofs.Math.Option.{some};
 
 use crate::limits::{MOST_ROWS, SLOTS};
+use lists::List;
 
-/// A row: a variable by its label, or a word with the number of its arguments and slots, of which the first so many hold their rows.
+/// A row: a variable by its label, or a word with the rows of its arguments.
 #[derive(Clone, Copy)]
 pub enum Row {
     Variable(u16),
-    Composed(u16, u8, [u16; SLOTS]),
+    Composed(u16, List<u16, SLOTS>),
 }
 
 impl Row {
-    /// How many arguments there are.
-    pub fn arity(&self) -> usize
-        ensures { result ≡ count_of self.now }
+    /// The rows of its arguments: none of a variable.
+    pub fn arguments(&self) -> &[u16]
+        ensures { result.now ≡ args_of (some (row_of self.now)) }
     {
         match self {
-            Row::Variable(_) => 0,
-            Row::Composed(_, count, _) => *count as usize,
+            Row::Variable(_) => &[],
+            Row::Composed(_, arguments) => arguments.as_slice(),
         }
     }
 
-    /// The row in slot `k`.
-    pub fn slot(&self, k: usize) -> u16
-        requires { k < most_arguments }
-        ensures { result ≡ slice_index (slots_of self.now) k }
+    /// How many arguments there are.
+    pub fn arity(&self) -> usize
+        ensures { result ≡ length (args_of (some (row_of self.now))) }
     {
-        match self {
-            Row::Variable(_) => 0,
-            Row::Composed(_, _, slots) => slots[k],
-        }
+        self.arguments().len()
+    }
+
+    /// Argument `k`; 0 where there is none.
+    pub fn slot(&self, k: usize) -> u16
+        ensures { result ≡ slice_index (args_of (some (row_of self.now))) k }
+    {
+        self.arguments().get(k).copied().unwrap_or(0)
     }
 
     /// Its word; nothing of a variable.
@@ -42,7 +46,7 @@ impl Row {
     {
         match self {
             Row::Variable(_) => None,
-            Row::Composed(word, _, _) => Some(*word),
+            Row::Composed(word, _) => Some(*word),
         }
     }
 
@@ -53,7 +57,7 @@ impl Row {
     {
         match self {
             Row::Variable(_) => MOST_ROWS + p,
-            Row::Composed(_, _, _) => p,
+            Row::Composed(_, _) => p,
         }
     }
 
@@ -61,19 +65,13 @@ impl Row {
     pub fn is_composed(&self) -> bool
         ensures { Decides result (kind (some (row_of self.now)) ≡ 0) }
     {
-        match self {
-            Row::Variable(_) => false,
-            Row::Composed(_, _, _) => true,
-        }
+        matches!(self, Row::Composed(_, _))
     }
 
     /// Whether this is the variable of that label.
     pub fn is_variable(&self, label: u16) -> bool
         ensures { Decides result (row_of self.now ≡ variable label) }
     {
-        match self {
-            Row::Variable(x) => *x == label,
-            Row::Composed(_, _, _) => false,
-        }
+        matches!(self, Row::Variable(x) if *x == label)
     }
 }

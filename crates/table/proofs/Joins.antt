@@ -33,6 +33,11 @@ at_renamed c gone keep p h =
 pub coarser : (c : List ℕ) (gone keep p q : ℕ) → p < length c → q < length c → at c p ≡ at c q → at (map (renamed gone keep) c) p ≡ at (map (renamed gone keep) c) q
 coarser c gone keep p q hp hq e = get_or-map (renamed gone keep) c p 0 0 hp ∙ ap (renamed gone keep) e ∙ sym (get_or-map (renamed gone keep) c q 0 0 hq)
 
+-- The numbers after a renaming to a row are rows.
+pub within_renamed : (n : ℕ) (c : List ℕ) (gone keep : ℕ) → n ≤ length c → Below n (λ p. at c p < n) → keep < n → Below n (λ p. at (map (renamed gone keep) c) p < n)
+within_renamed n c gone keep len w kn p h =
+    elim (at_renamed c gone keep p (omega arith)) [ inl e ↦ subst (λ z. z < n) (sym e.1) kn | inr e ↦ subst (λ z. z < n) (sym e.1) (w p h) ]
+
 module _ (sheet : Sheet) (n : ℕ) where
   pub join₁ : {p q r : ℕ} → ∥ Closure sheet p q ∥₁ → ∥ Closure sheet q r ∥₁ → ∥ Closure sheet p r ∥₁
   join₁ t u = ∥∥₁_elim t squash₁ (λ a. ∥∥₁_map u (λ b. joined a b))
@@ -43,7 +48,7 @@ module _ (sheet : Sheet) (n : ℕ) where
   -- A renaming of one label to a better one that is together with it
   pub sound_renamed : (c : List ℕ) (gone keep : ℕ) → n ≤ length c → Sound sheet n c → keep < n → at c keep ≡ keep → rank sheet.rows keep ≤ rank sheet.rows gone → ∥ Closure sheet gone keep ∥₁ → Sound sheet n (map (renamed gone keep) c)
   sound_renamed c gone keep len s kn kk le t = record {
-    within = λ p h. elim (at_renamed c gone keep p (omega arith)) [ inl e ↦ subst (λ z. z < n) (sym e.1) kn | inr e ↦ subst (λ z. z < n) (sym e.1) (s.within p h) ];
+    within = within_renamed n c gone keep len s.within kn;
     fixed = λ p h. elim (at_renamed c gone keep p (omega arith)) [
       | inl e ↦ ap (λ z. at (map (renamed gone keep) c) z) e.1 ∙ at_keep ∙ sym e.1
       | inr e ↦ ap (λ z. at (map (renamed gone keep) c) z) e.1 ∙ at_label p h e.0 ∙ sym e.1

@@ -1,4 +1,5 @@
 pub mod Backs
+pub mod Closings
 pub mod Deeps
 pub mod Equated
 pub mod Facts

@@ -1,3 +1,6 @@
+ghost use Rattle.std.specs.Prelude.{◌≡◌};
+ghost use Rattle.table.specs.declared.causes.JoinFault.TheVariants.{Unequal};
+
 /// Why a table takes no more rows.
 #[derive(Clone, Copy, PartialEq, Eq, Debug)]
 pub enum RowFault {
@@ -23,14 +26,14 @@ pub enum BackFault {
 }
 
 /// Two composed rows that have to be equal, with different numbers of arguments.
-#[derive(Clone, Copy)]
+#[derive(Clone, Copy, PartialEq, Eq, Debug)]
 pub struct Unequal {
     pub left: u16,
     pub right: u16,
 }
 
 /// Why a table takes no equation.
-#[derive(Clone, Copy)]
+#[derive(Clone, Copy, PartialEq, Eq, Debug)]
 pub enum JoinFault {
     /// The side at this position, 0 or 1, is no row.
     Missing(u16),
@@ -38,4 +41,12 @@ pub enum JoinFault {
     Full,
     /// With the equation these two composed rows would be in the closure, and have different numbers of arguments.
     Unequal(Unequal),
+}
+
+impl From<Unequal> for JoinFault {
+    ghost from_gives = { λ u fault. fault ≡ Unequal u };
+
+    fn from(unequal: Unequal) -> JoinFault {
+        JoinFault::Unequal(unequal)
+    }
 }

@@ -1,70 +1,102 @@
-ghost use Rattle.std.specs.Prelude.{◌≡◌, ◌<◌, ◌≤◌, length, MatchOption, ◌≢◌, slice_index};
-ghost use Rattle.fault.specs.Firsts.{Below};
-ghost use Rattle.table.specs.Joining.{Agrees, Apart, Differ, Uniform, merged};
-ghost use Rattle.rows.specs.Stored.{args_at, at, rank, rows_of};
+ghost use Rattle.std.specs.Prelude.{◌≡◌, ◌<◌, ◌≤◌, ◌≢◌, length, MatchOption};
+ghost use Rattle.table.specs.Joined.{JoinGives};
+ghost use Rattle.table.specs.Joining.{Differ, Sides, Sound, Uniform, labels};
+ghost use Rattle.table.specs.Sheets.{sheet_of};
+ghost use Rattle.rows.specs.Stored.{at, rows_of};
+ghost use Rattle.unification.specs.Closures.{Closure};
+ghost use Rattle.unification.specs.Sheets.{IsCoherent};
 
-use rows::{Numbers, Rows};
+use crate::causes::Unequal;
+use crate::classing::Classing;
+use rows::{Equations, Numbers};
 
-/// Makes the classes of rows `a` and `b` one, under the number of lesser rank.
-pub fn merge(rows: &Rows, classes: &mut Numbers, a: usize, b: usize)
-    requires left { a < rows.now.len }
-    requires right { b < rows.now.len }
-    requires within { Below rows.now.len (λ p. at classes.old.of p < rows.now.len) }
-    ensures { classes.new.of ≡ merged (rows_of rows.now.items rows.now.len) classes.old.of a b }
-{
-    let x = classes.of(a);
-    let y = classes.of(b);
-    if rows.rank(x) <= rows.rank(y) {
-        classes.rename(y as u16, x as u16);
-    } else {
-        classes.rename(x as u16, y as u16);
-    }
+/// Classes of a sheet that are being closed: they put together no more than the closure does, and both sides of each equation.
+/// `equations` are what the classes come from, and are not looked at.
+#[derive(Clone, Copy)]
+pub struct Closing<'r> {
+    pub classing: Classing<'r>,
+    pub equations: &'r Equations,
+    ghost coherent: { ∥ IsCoherent (sheet_of classing.rows.now equations.now) ∥₁ },
+    ghost sound: { Sound (sheet_of classing.rows.now equations.now) (length (rows_of classing.rows.now.items)) classing.classes.of },
+    ghost sides: { Sides (sheet_of classing.rows.now equations.now) classing.classes.of },
 }
 
-/// The first place at which the arguments of `p` and `q`, equally many, have two numbers.
-fn parting(rows: &Rows, classes: &Numbers, p: usize, q: usize) -> Option<usize>
-    requires left { p < rows.now.len }
-    requires right { q < rows.now.len }
-    requires arities { length (args_at (rows_of rows.now.items rows.now.len) p) ≡ length (args_at (rows_of rows.now.items rows.now.len) q) }
-    ensures { MatchOption result (Below (length (args_at (rows_of rows.now.items rows.now.len) p)) (λ k. at classes.now.of (slice_index (args_at (rows_of rows.now.items rows.now.len) p) k) ≡ at classes.now.of (slice_index (args_at (rows_of rows.now.items rows.now.len) q) k))) (λ k. (k < length (args_at (rows_of rows.now.items rows.now.len) p)) × (at classes.now.of (slice_index (args_at (rows_of rows.now.items rows.now.len) p) k) ≢ at classes.now.of (slice_index (args_at (rows_of rows.now.items rows.now.len) q) k))) }
-{
-    for k in 0..rows.arity(p) {
-        if classes.of(rows.argument(p, k)) != classes.of(rows.argument(q, k)) {
-            return Some(k);
+impl<'r> Closing<'r> {
+    /// Joins the classes of two rows that the closure puts together, and that have two.
+    fn join(&mut self, x: usize, y: usize)
+        requires left { x < length (rows_of self.old.classing.rows.now.items) }
+        requires right { y < length (rows_of self.old.classing.rows.now.items) }
+        requires together { ∥ Closure (sheet_of self.old.classing.rows.now self.old.equations.now) x y ∥₁ }
+        requires apart { at self.old.classing.classes.of x ≢ at self.old.classing.classes.of y }
+        ensures rows { self.new.classing.rows ≡ self.old.classing.rows }
+        ensures equations { self.new.equations ≡ self.old.equations }
+        ensures labels { let n = length (rows_of self.old.classing.rows.now.items) in
+            labels self.new.classing.classes.of n < labels self.old.classing.classes.of n }
+    {
+        self.classing.merge(x, y);
+    }
+
+    /// Joins the arguments of row `p` to those of its class's row, place by place, where there are equally many.
+    fn join_arguments(&mut self, p: usize)
+        requires { p < length (rows_of self.old.classing.rows.now.items) }
+        ensures rows { self.new.classing.rows ≡ self.old.classing.rows }
+        ensures equations { self.new.equations ≡ self.old.equations }
+        ensures labels { let n = length (rows_of self.old.classing.rows.now.items) in
+            labels self.new.classing.classes.of n ≤ labels self.old.classing.classes.of n }
+    {
+        let rows = self.classing.rows;
+        let q = self.classing.classes.of(p);
+        if rows.arity(p) != rows.arity(q) {
+            return;
         }
-    }
-    None
-}
-
-/// Two arguments that have to be in one class, and are not yet; rows are looked at from the highest down.
-pub fn find_apart(rows: &Rows, classes: &Numbers) -> Option<(usize, usize)>
-    requires within { Below rows.now.len (λ p. at classes.now.of p < rows.now.len) }
-    ensures { MatchOption result (Below rows.now.len (Agrees (rows_of rows.now.items rows.now.len) classes.now.of)) (λ s. Apart (rows_of rows.now.items rows.now.len) rows.now.len classes.now.of s.0 s.1) }
-{
-    let n = rows.len();
-    for i in 0..n {
-        let p = n - 1 - i;
-        let q = classes.of(p);
-        if rows.arity(p) == rows.arity(q) {
-            if let Some(k) = parting(rows, classes, p, q) {
-                return Some((rows.argument(p, k), rows.argument(q, k)));
+        for (x, y) in rows.arguments(p).iter().zip(rows.arguments(q)) {
+            let x = *x as usize;
+            let y = *y as usize;
+            if self.classing.classes.of(x) != self.classing.classes.of(y) {
+                self.join(x, y);
             }
         }
     }
-    None
-}
 
-/// Two composed rows of one class with different numbers of arguments.
-pub fn find_unequal(rows: &Rows, classes: &Numbers) -> Option<(usize, usize)>
-    requires within { Below rows.now.len (λ p. at classes.now.of p < rows.now.len) }
-    requires first { Below rows.now.len (λ p. rank (rows_of rows.now.items rows.now.len) (at classes.now.of p) ≤ rank (rows_of rows.now.items rows.now.len) p) }
-    ensures { MatchOption result (Uniform (rows_of rows.now.items rows.now.len) rows.now.len classes.now.of) (λ s. Differ (rows_of rows.now.items rows.now.len) rows.now.len classes.now.of s.0 s.1) }
-{
-    for p in 0..rows.len() {
-        let q = classes.of(p);
-        if rows.is_composed(p) && rows.arity(p) != rows.arity(q) {
-            return Some((p, q));
+    /// Joins the arguments of each row, in one pass from the highest row down.
+    fn pass_down(&mut self)
+        ensures rows { self.new.classing.rows ≡ self.old.classing.rows }
+        ensures equations { self.new.equations ≡ self.old.equations }
+        ensures labels { let n = length (rows_of self.old.classing.rows.now.items) in
+            labels self.new.classing.classes.of n ≤ labels self.old.classing.classes.of n }
+    {
+        for p in (0..self.classing.rows.len()).rev() {
+            self.join_arguments(p);
         }
     }
-    None
+
+    /// A composed row with another number of arguments than the row of its class, which is composed too.
+    fn find_unequal(&self) -> Option<usize>
+        ensures { let s = sheet_of self.now.classing.rows.now self.now.equations.now in
+            let c = self.now.classing.classes.of in
+            MatchOption result
+            (Uniform s.rows (length s.rows) c)
+            (λ p. Differ s.rows (length s.rows) c p (at c p)) }
+    {
+        let Classing { rows, classes } = self.classing;
+        (0..rows.len()).find(|&p| rows.is_composed(p) && rows.arity(p) != rows.arity(classes.of(p)))
+    }
+
+    /// Joins the classes of arguments in one place until nothing is apart; each joining leaves one class less.
+    pub fn close(&self) -> Result<Numbers, Unequal>
+        ensures { JoinGives (sheet_of self.now.classing.rows.now self.now.equations.now) result }
+    {
+        let mut closed = *self;
+        while let Some((x, y)) = closed.classing.find_apart() {
+            closed.join(x, y);
+            closed.pass_down();
+        }
+        match closed.find_unequal() {
+            Some(p) => Err(Unequal {
+                left: p as u16,
+                right: closed.classing.classes.of(p) as u16,
+            }),
+            None => Ok(closed.classing.classes),
+        }
+    }
 }

@@ -1,94 +1,116 @@
-ghost use Rattle.std.specs.Prelude.{◌≡◌, ◌+◌, ◌<◌, ◌≤◌, length, Decides, MatchOption, MatchResult, slice_index};
+ghost use Rattle.std.specs.Prelude.{◌≡◌, ◌+◌, ◌<◌, ◌≤◌, length, Decides, MatchOption, MatchResult};
 ghost use Rattle.fault.specs.Firsts.{Below};
 ghost use Rattle.table.specs.Deepening.{Heights, Ready, Settled, Still, Stuck, missing};
-ghost use Rattle.rows.specs.Stored.{args_at, at, depth_at, rows_of};
+ghost use Rattle.rows.specs.Stored.{at, depth_at, rows_of};
 
-use rows::{Numbers, Rows};
+use crate::classing::Classing;
+use rows::Numbers;
 
-/// The first place at which the class of an argument of row `p` has no depth yet.
-fn waits(rows: &Rows, classes: &Numbers, depths: &Numbers, p: usize) -> Option<usize>
-    requires row { p < rows.now.len }
-    requires within { Below rows.now.len (λ q. at classes.now.of q < rows.now.len) }
-    ensures { MatchOption result (Ready (rows_of rows.now.items rows.now.len) classes.now.of depths.now.of p) (λ k. (k < length (args_at (rows_of rows.now.items rows.now.len) p)) × (depth_at classes.now.of depths.now.of (slice_index (args_at (rows_of rows.now.items rows.now.len) p) k) ≡ 0)) }
-{
-    for k in 0..rows.arity(p) {
-        if depths.of(classes.of(rows.argument(p, k))) == 0 {
-            return Some(k);
+/// Depths that are given one after the other: below `next`, and falling from each row to the classes of its arguments.
+#[derive(Clone, Copy)]
+struct Deepening<'r> {
+    classing: Classing<'r>,
+    depths: Numbers,
+    next: usize,
+    ghost heights: { Heights (rows_of classing.rows.now.items) (length (rows_of classing.rows.now.items)) classing.classes.of depths.of next },
+}
+
+impl<'r> Deepening<'r> {
+    /// No row has a depth.
+    fn new(classing: &Classing<'r>) -> Self
+        ensures { result.classing ≡ classing.now }
+    {
+        Deepening {
+            classing: *classing,
+            depths: Numbers::zeros(),
+            next: 1,
         }
     }
-    None
-}
 
-/// Whether row `p` has no depth yet, but the classes of all its arguments have one.
-fn is_ready(rows: &Rows, classes: &Numbers, depths: &Numbers, p: usize) -> bool
-    requires row { p < rows.now.len }
-    requires within { Below rows.now.len (λ q. at classes.now.of q < rows.now.len) }
-    ensures { Decides result ((at depths.now.of p ≡ 0) × Ready (rows_of rows.now.items rows.now.len) classes.now.of depths.now.of p) }
-{
-    if depths.of(p) != 0 {
-        return false;
+    /// Whether the class of row `p` has a depth.
+    fn has_depth(&self, p: usize) -> bool
+        requires { p < length (rows_of self.now.classing.rows.now.items) }
+        ensures { Decides result (0 < depth_at self.now.classing.classes.of self.now.depths.of p) }
+    {
+        self.depths.of(self.classing.classes.of(p)) != 0
     }
-    match waits(rows, classes, depths, p) {
-        Some(_) => false,
-        None => true,
-    }
-}
 
-/// A row that is ready for a depth.
-fn find_ready(rows: &Rows, classes: &Numbers, depths: &Numbers) -> Option<usize>
-    requires within { Below rows.now.len (λ q. at classes.now.of q < rows.now.len) }
-    ensures { MatchOption result (Still (rows_of rows.now.items rows.now.len) rows.now.len classes.now.of depths.now.of) (λ p. (p < rows.now.len) × (at depths.now.of p ≡ 0) × Ready (rows_of rows.now.items rows.now.len) classes.now.of depths.now.of p) }
-{
-    for p in 0..rows.len() {
-        if is_ready(rows, classes, depths, p) {
-            return Some(p);
+    /// Whether row `p` has no depth yet, but the classes of all its arguments have one.
+    fn is_ready(&self, p: usize) -> bool
+        requires { p < length (rows_of self.now.classing.rows.now.items) }
+        ensures { Decides result
+            ((at self.now.depths.of p ≡ 0)
+            × Ready (rows_of self.now.classing.rows.now.items) self.now.classing.classes.of self.now.depths.of p) }
+    {
+        let arguments = self.classing.rows.arguments(p);
+        self.depths.of(p) == 0 && arguments.iter().all(|x| self.has_depth(*x as usize))
+    }
+
+    /// A row that is ready for a depth.
+    fn find_ready(&self) -> Option<usize>
+        ensures { let rows = rows_of self.now.classing.rows.now.items in
+            let c = self.now.classing.classes.of in
+            MatchOption result
+            (Still rows (length rows) c self.now.depths.of)
+            (λ p. (p < length rows) × (at self.now.depths.of p ≡ 0) × Ready rows c self.now.depths.of p) }
+    {
+        (0..self.classing.rows.len()).find(|&p| self.is_ready(p))
+    }
+
+    /// A row without a depth.
+    fn find_missing(&self) -> Option<usize>
+        ensures { let n = length (rows_of self.now.classing.rows.now.items) in
+            MatchOption result
+            (Below n (λ p. 0 < at self.now.depths.of p))
+            (λ p. (p < n) × (at self.now.depths.of p ≡ 0)) }
+    {
+        (0..self.classing.rows.len()).find(|&p| self.depths.of(p) == 0)
+    }
+
+    /// Gives row `p`, which is ready, the next depth.
+    fn give(&mut self, p: usize)
+        requires row { p < length (rows_of self.old.classing.rows.now.items) }
+        requires none { at self.old.depths.of p ≡ 0 }
+        requires ready { Ready (rows_of self.old.classing.rows.now.items) self.old.classing.classes.of self.old.depths.of p }
+        ensures classing { self.new.classing ≡ self.old.classing }
+        ensures missing { let n = length (rows_of self.old.classing.rows.now.items) in
+            missing self.new.depths.of n + 1 ≡ missing self.old.depths.of n }
+    {
+        self.depths.put(p, self.next as u16);
+        self.next += 1;
+    }
+
+    /// Gives depths in one pass from the lowest row up.
+    fn sweep(&mut self)
+        ensures classing { self.new.classing ≡ self.old.classing }
+        ensures missing { let n = length (rows_of self.old.classing.rows.now.items) in
+            missing self.new.depths.of n ≤ missing self.old.depths.of n }
+    {
+        for p in 0..self.classing.rows.len() {
+            if self.is_ready(p) {
+                self.give(p);
+            }
         }
     }
-    None
 }
 
-/// A row without a depth.
-fn find_missing(rows: &Rows, depths: &Numbers) -> Option<usize>
-    ensures { MatchOption result (Below rows.now.len (λ p. 0 < at depths.now.of p)) (λ p. (p < rows.now.len) × (at depths.now.of p ≡ 0)) }
-{
-    for p in 0..rows.len() {
-        if depths.of(p) == 0 {
-            return Some(p);
+impl<'r> Classing<'r> {
+    /// Depths for all rows, that fall from each row to the classes of its arguments; or a row that gets none.
+    pub fn deepen(&self) -> Result<Numbers, usize>
+        ensures { let rows = rows_of self.now.rows.now.items in
+            let c = self.now.classes.of in
+            MatchResult result
+            (λ d. Settled rows (length rows) c d.of)
+            (Stuck rows (length rows) c) }
+    {
+        let mut deepening = Deepening::new(self);
+        while let Some(p) = deepening.find_ready() {
+            deepening.give(p);
+            deepening.sweep();
         }
-    }
-    None
-}
-
-/// Gives depths from `next` on, in one pass from the lowest row up, and answers the next one after it.
-fn sweep(rows: &Rows, classes: &Numbers, depths: &mut Numbers, next: usize) -> usize
-    requires within { Below rows.now.len (λ q. at classes.now.of q < rows.now.len) }
-    requires heights { Heights (rows_of rows.now.items rows.now.len) rows.now.len classes.now.of depths.old.of next }
-    ensures heights { Heights (rows_of rows.now.items rows.now.len) rows.now.len classes.now.of depths.new.of result }
-    ensures missing { missing depths.new.of rows.now.len ≤ missing depths.old.of rows.now.len }
-{
-    let mut next = next;
-    for p in 0..rows.len() {
-        if is_ready(rows, classes, depths, p) {
-            depths.put(p, next as u16);
-            next += 1;
+        match deepening.find_missing() {
+            Some(p) => Err(p),
+            None => Ok(deepening.depths),
         }
-    }
-    next
-}
-
-/// Depths for all rows, that fall from each row to the classes of its arguments; or a row that gets none.
-pub fn deepen(rows: &Rows, classes: &Numbers) -> Result<Numbers, usize>
-    requires within { Below rows.now.len (λ q. at classes.now.of q < rows.now.len) }
-    ensures { MatchResult result (λ d. Settled (rows_of rows.now.items rows.now.len) rows.now.len classes.now.of d.of) (Stuck (rows_of rows.now.items rows.now.len) rows.now.len classes.now.of) }
-{
-    let mut depths = Numbers::zeros();
-    let mut next = 1;
-    while let Some(p) = find_ready(rows, classes, &depths) {
-        depths.put(p, next as u16);
-        next = sweep(rows, classes, &mut depths, next + 1);
-    }
-    match find_missing(rows, &depths) {
-        Some(p) => Err(p),
-        None => Ok(depths),
     }
 }

@@ -2,9 +2,9 @@
 #![tactic(auto)]
 
 mod causes;
+mod classing;
 mod closing;
 mod deepening;
-mod joining;
 mod rebuilding;
 mod table;
 mod verdicts;

@@ -5,8 +5,8 @@ ghost use Rattle.table.specs.Equating.{Between, Deep, DeepenAnswers, JoinAnswers
 ghost use Rattle.table.specs.Joining.{Uniform};
 ghost use Rattle.table.specs.Sheets.{sheet_of};
 ghost use Rattle.table.specs.Uniformity.{IsUniform};
-ghost use Rattle.rows.specs.Limits.{most_arguments, most_equations, most_rows};
-ghost use Rattle.rows.specs.Stored.{InSlots, args_of, at, depth_at, equation_of, pair_of, row_of};
+ghost use Rattle.rows.specs.Limits.{most_equations, most_rows};
+ghost use Rattle.rows.specs.Stored.{args_of, at, depth_at, equation_of, equations_of, pair_of, row_of, rows_of};
 ghost use Rattle.unification.specs.Closures.{IsDepth, Representative};
 ghost use Rattle.unification.specs.Putting.{Unlabelled};
 ghost use Rattle.unification.specs.Sheets.{At, Fits, IsCoherent, appended, equated, fresh, kept, variable};
@@ -15,11 +15,13 @@ ghost use Rattle.std.proofs.Math.ListN.{get_elem?};
 ghost use Rattle.std.proofs.Math.Option.{some};
 
 use crate::causes::{BackFault, JoinFault, RowFault};
-use crate::closing::merge;
-use crate::deepening::deepen;
-use crate::joining::close;
-use crate::rebuilding::{classes_of, depths_of};
-use rows::{Equation, Equations, LABELS, MOST_EQUATIONS, MOST_ROWS, Numbers, Row, Rows, SLOTS};
+use crate::classing::Classing;
+use crate::closing::Closing;
+use crate::rebuilding::classes_of;
+use lists::List;
+use rows::{
+    Equation, Equations, LABELS, MOST_EQUATIONS, MOST_ROWS, Numbers, Row, Rows, SLOTS, find_outside,
+};
 
 /// A sheet of up to `MOST_ROWS` rows and up to `MOST_EQUATIONS` equations, with the representative of each row, which numbers its class, and the depth of each
 /// class. The depths fall from a row to each row that it is above, so there is no cycle.
@@ -32,8 +34,8 @@ pub struct Table {
     ghost coherent: { ∥ IsCoherent (sheet_of rows equations) ∥₁ },
     ghost represents: { ∥ Represents (sheet_of rows equations) (at classes.of) ∥₁ },
     ghost falls: { IsDepth (sheet_of rows equations) (depth_at classes.of depths.of) },
-    ghost within: { Below rows.len (λ p. at classes.of p < rows.len) },
-    ghost shallow: { Below rows.len (λ p. depth_at classes.of depths.of p ≤ rows.len) },
+    ghost within: { Below (length (rows_of rows.items)) (λ p. at classes.of p < length (rows_of rows.items)) },
+    ghost shallow: { Below (length (rows_of rows.items)) (λ p. depth_at classes.of depths.of p ≤ length (rows_of rows.items)) },
 }
 
 impl Table {
@@ -44,7 +46,7 @@ impl Table {
     {
         Table {
             rows: Rows::none(),
-            equations: Equations::none(),
+            equations: Equations::new(Equation { left: 0, right: 0 }),
             classes: Numbers::zeros(),
             depths: Numbers::zeros(),
         }
@@ -68,10 +70,7 @@ impl Table {
     pub fn row(&self, p: u16) -> Option<Row>
         ensures { MatchOption result (length (sheet_of self.now.rows self.now.equations).rows ≤ p) (λ x. At (sheet_of self.now.rows self.now.equations) p (row_of x)) }
     {
-        if p as usize >= self.rows.len() {
-            return None;
-        }
-        Some(self.rows.row(p as usize))
+        self.rows.as_slice().get(p as usize).copied()
     }
 
     /// The representative of row `p`; nothing where there is no such row.
@@ -96,34 +95,29 @@ impl Table {
     pub fn words_at(&self, classes: &Numbers, p: u16) -> Option<(u16, u16)>
         ensures { result ≡ pair_of (get_elem? (sheet_of self.now.rows self.now.equations).rows p) (get_elem? (sheet_of self.now.rows self.now.equations).rows (at classes.now.of p)) }
     {
-        match self.rows.word(p as usize) {
-            Some(word) => match self.rows.word(classes.of(p as usize)) {
-                Some(chief) => Some((word, chief)),
-                None => None,
-            },
-            None => None,
-        }
+        let word = self.rows.word(p as usize)?;
+        let chief = self.rows.word(classes.of(p as usize))?;
+        Some((word, chief))
     }
 
     /// The row of the label; nothing where it has none.
     pub fn row_of(&self, label: u16) -> Option<u16>
         ensures { MatchOption result (Unlabelled (sheet_of self.now.rows self.now.equations) label) (λ p. At (sheet_of self.now.rows self.now.equations) p (variable label)) }
     {
-        for p in 0..self.rows.len() {
-            if self.rows.row(p).is_variable(label) {
-                return Some(p as u16);
-            }
-        }
-        None
+        let p = self
+            .rows
+            .as_slice()
+            .iter()
+            .position(|row| row.is_variable(label))?;
+        Some(p as u16)
     }
 
     /// One more row, after the last, with its depth.
     fn push(&mut self, row: Row, depth: u16)
-        requires room { self.old.rows.len < most_rows }
-        requires slots { InSlots row }
+        requires room { length (rows_of self.old.rows.items) < most_rows }
         requires fits { Fits (sheet_of self.old.rows self.old.equations) (row_of row) }
         requires above { Below (length (args_of (some (row_of row)))) (λ i. depth_at self.old.classes.of self.old.depths.of (slice_index (args_of (some (row_of row))) i) < depth) }
-        requires shallow { depth ≤ self.old.rows.len + 1 }
+        requires shallow { depth ≤ length (rows_of self.old.rows.items) + 1 }
         ensures sheet { sheet_of self.new.rows self.new.equations ≡ appended (sheet_of self.old.rows self.old.equations) (row_of row) }
         ensures uniform { IsUniform self.old.rows self.old.equations self.old.classes → IsUniform self.new.rows self.new.equations self.new.classes }
     {
@@ -155,25 +149,22 @@ impl Table {
 
     /// The depth of row `p`.
     fn depth_of(&self, p: usize) -> usize
-        requires { p < self.now.rows.len }
+        requires { p < length (rows_of self.now.rows.items) }
         ensures value { result ≡ depth_at self.now.classes.of self.now.depths.of p }
-        ensures bound { result ≤ self.now.rows.len }
+        ensures bound { result ≤ length (rows_of self.now.rows.items) }
     {
         self.depths.of(self.classes.of(p))
     }
 
     /// A depth above those of the rows.
     fn depth_above(&self, rows: &[u16]) -> u16
-        requires { Below (length rows.now) (λ i. slice_index rows.now i < self.now.rows.len) }
+        requires { Below (length rows.now) (λ i. slice_index rows.now i < length (rows_of self.now.rows.items)) }
         ensures above { Below (length rows.now) (λ i. depth_at self.now.classes.of self.now.depths.of (slice_index rows.now i) < result) }
-        ensures shallow { result ≤ self.now.rows.len + 1 }
+        ensures shallow { result ≤ length (rows_of self.now.rows.items) + 1 }
     {
         let mut above = 0;
         for p in rows {
-            let depth = self.depth_of(*p as usize);
-            if above <= depth {
-                above = depth + 1;
-            }
+            above = above.max(self.depth_of(*p as usize) + 1);
         }
         above as u16
     }
@@ -195,7 +186,7 @@ impl Table {
             return Err(RowFault::Full);
         }
         let depth = self.depth_above(rows);
-        self.push(Row::Composed(word, rows.len() as u8, slots(rows)), depth);
+        self.push(Row::Composed(word, List::from_slice(rows, 0)), depth);
         Ok(n as u16)
     }
 
@@ -215,12 +206,17 @@ impl Table {
         }
         let mut equations = self.equations;
         equations.push(e);
-        let mut classes = self.classes;
-        merge(&self.rows, &mut classes, e.left as usize, e.right as usize);
-        match close(&self.rows, &equations, &classes) {
-            Ok(classes) => Ok(classes),
-            Err(u) => Err(JoinFault::Unequal(u)),
-        }
+        let mut classing = Classing {
+            rows: &self.rows,
+            classes: self.classes,
+        };
+        classing.merge(e.left as usize, e.right as usize);
+        let closing = Closing {
+            classing,
+            equations: &equations,
+        };
+        let classes = closing.close()?;
+        Ok(classes)
     }
 
     /// The depth of each class with one more equation, whose classes are these; nothing where there is a cycle.
@@ -230,10 +226,11 @@ impl Table {
         requires uniform { Uniform (sheet_of self.now.rows self.now.equations).rows (length (sheet_of self.now.rows self.now.equations).rows) classes.now.of }
         ensures { DeepenAnswers (equated (sheet_of self.now.rows self.now.equations) (equation_of e)) classes.now.of result }
     {
-        match deepen(&self.rows, classes) {
-            Ok(depths) => Some(depths),
-            Err(_) => None,
-        }
+        let classing = Classing {
+            rows: &self.rows,
+            classes: *classes,
+        };
+        classing.deepen().ok()
     }
 
     /// Puts the equation at the end of the others, with the classes and depths that it makes.
@@ -252,8 +249,8 @@ impl Table {
 
     /// The table of the first `n` rows and the first `m` equations.
     fn first(&self, n: usize, m: usize) -> Table
-        requires rows { n ≤ self.now.rows.len }
-        requires equations { m ≤ self.now.equations.len }
+        requires rows { n ≤ length (rows_of self.now.rows.items) }
+        requires equations { m ≤ length (equations_of self.now.equations) }
         requires among { KeptAmong (sheet_of self.now.rows self.now.equations) n m }
         requires uniform { IsUniform self.now.rows self.now.equations self.now.classes }
         ensures sheet { sheet_of result.rows result.equations ≡ kept n m (sheet_of self.now.rows self.now.equations) }
@@ -262,9 +259,13 @@ impl Table {
         let mut rows = self.rows;
         rows.cut(n);
         let mut equations = self.equations;
-        equations.cut(m);
+        equations.truncate(m);
         let classes = classes_of(&rows, &equations);
-        let depths = depths_of(&rows, &equations, &classes);
+        let classing = Classing {
+            rows: &rows,
+            classes,
+        };
+        let depths = classing.deepen().unwrap();
         Table {
             rows,
             equations,
@@ -288,7 +289,7 @@ impl Table {
         if m > self.equations.len() {
             return Err(BackFault::Equations);
         }
-        if let Some(_) = self.equations.find_outside(m, n) {
+        if find_outside(&self.equations, m, n).is_some() {
             return Err(BackFault::Dropped);
         }
         *self = self.first(n, m);
@@ -300,23 +301,5 @@ impl Table {
 fn first_missing(rows: &[u16], n: usize) -> Option<usize>
     ensures { MatchOption result (Below (length rows.now) (λ k. slice_index rows.now k < n)) (First1 (length rows.now) (λ k. slice_index rows.now k < n)) }
 {
-    for k in 0..rows.len() {
-        if rows[k] as usize >= n {
-            return Some(k);
-        }
-    }
-    None
-}
-
-/// The numbers, and then zeros in the other slots.
-fn slots(rows: &[u16]) -> [u16; SLOTS]
-    requires { length rows.now ≤ most_arguments }
-    ensures size { length result ≡ most_arguments }
-    ensures items { take (length rows.now) result ≡ rows.now }
-{
-    let mut slots = [0; SLOTS];
-    for k in 0..rows.len() {
-        slots[k] = rows[k];
-    }
-    slots
+    rows.iter().position(|p| *p as usize >= n)
 }

@@ -5,92 +5,49 @@ ghost use Rattle.table.specs.Uniformity.{IsUniform};
 
 use table::{BackFault, Equation, JoinFault, RowFault, Table};
 
-/// What equating two rows came to.
+/// Why two rows were not equated.
 #[derive(Clone, Copy, PartialEq, Eq, Debug)]
-pub enum Answer {
-    Done,
+pub enum EquateFault {
     Missing(u16),
     Full,
     Unequal(u16, u16),
     Cycle,
 }
 
+impl From<JoinFault> for EquateFault {
+    fn from(fault: JoinFault) -> EquateFault {
+        match fault {
+            JoinFault::Missing(i) => EquateFault::Missing(i),
+            JoinFault::Full => EquateFault::Full,
+            JoinFault::Unequal(u) => EquateFault::Unequal(u.left, u.right),
+        }
+    }
+}
+
 /// Puts the equation down unless it is refused.
-pub fn equate(table: &mut Table, left: u16, right: u16) -> Answer
+pub fn equate(table: &mut Table, left: u16, right: u16) -> Result<(), EquateFault>
     ensures { IsUniform table.old.rows table.old.equations table.old.classes → IsUniform table.new.rows table.new.equations table.new.classes }
 {
     let e = Equation { left, right };
-    match table.join(e) {
-        Ok(classes) => match table.deepen(e, &classes) {
-            Some(depths) => {
-                table.commit(e, &classes, &depths);
-                Answer::Done
-            }
-            None => Answer::Cycle,
-        },
-        Err(fault) => refused(fault),
-    }
-}
-
-/// The answer that a refused joining comes to.
-fn refused(fault: JoinFault) -> Answer {
-    match fault {
-        JoinFault::Missing(i) => Answer::Missing(i),
-        JoinFault::Full => Answer::Full,
-        JoinFault::Unequal(u) => Answer::Unequal(u.left, u.right),
-    }
-}
-
-/// The row, where there is one.
-fn made(answer: Result<u16, RowFault>) -> Option<u16> {
-    match answer {
-        Ok(p) => Some(p),
-        Err(_) => None,
-    }
-}
-
-/// The position of the argument that is no row.
-fn missing(answer: Result<u16, RowFault>) -> Option<u16> {
-    match answer {
-        Err(RowFault::Missing(i)) => Some(i),
-        _ => None,
-    }
-}
-
-fn is_full(answer: Result<u16, RowFault>) -> bool {
-    match answer {
-        Err(RowFault::Full) => true,
-        _ => false,
-    }
-}
-
-fn is_label(answer: Result<u16, RowFault>) -> bool {
-    match answer {
-        Err(RowFault::Label) => true,
-        _ => false,
-    }
-}
-
-fn is_too_many(answer: Result<u16, RowFault>) -> bool {
-    match answer {
-        Err(RowFault::TooMany) => true,
-        _ => false,
-    }
+    let classes = table.join(e)?;
+    let depths = table.deepen(e, &classes).ok_or(EquateFault::Cycle)?;
+    table.commit(e, &classes, &depths);
+    Ok(())
 }
 
 // status(?1,paused(?2)) and status(c2,suspended(grid)), with the words 0 status, 1 paused, 2 suspended, 4 grid, 7 c2.
 #[test]
 fn alike_words(rt: HostRuntime) {
     let mut t = Table::new();
-    assert_eq!(rt; made(t.variable(1)), Some(0));
-    assert_eq!(rt; made(t.variable(2)), Some(1));
-    assert_eq!(rt; made(t.compose(1, &[1])), Some(2));
-    assert_eq!(rt; made(t.compose(0, &[0, 2])), Some(3));
-    assert_eq!(rt; made(t.compose(7, &[])), Some(4));
-    assert_eq!(rt; made(t.compose(4, &[])), Some(5));
-    assert_eq!(rt; made(t.compose(2, &[5])), Some(6));
-    assert_eq!(rt; made(t.compose(0, &[4, 6])), Some(7));
-    assert_eq!(rt; equate(&mut t, 3, 7), Answer::Done);
+    assert_eq!(rt; t.variable(1), Ok(0));
+    assert_eq!(rt; t.variable(2), Ok(1));
+    assert_eq!(rt; t.compose(1, &[1]), Ok(2));
+    assert_eq!(rt; t.compose(0, &[0, 2]), Ok(3));
+    assert_eq!(rt; t.compose(7, &[]), Ok(4));
+    assert_eq!(rt; t.compose(4, &[]), Ok(5));
+    assert_eq!(rt; t.compose(2, &[5]), Ok(6));
+    assert_eq!(rt; t.compose(0, &[4, 6]), Ok(7));
+    assert_eq!(rt; equate(&mut t, 3, 7), Ok(()));
     assert_eq!(rt; t.representative(0), Some(4));
     assert_eq!(rt; t.representative(1), Some(5));
     assert_eq!(rt; t.representative(2), Some(2));
@@ -109,17 +66,17 @@ fn alike_words(rt: HostRuntime) {
 #[test]
 fn refusals(rt: HostRuntime) {
     let mut t = Table::new();
-    assert_eq!(rt; made(t.variable(1)), Some(0));
-    assert_eq!(rt; made(t.compose(1, &[0])), Some(1));
-    assert_eq!(rt; made(t.compose(4, &[])), Some(2));
-    assert_eq!(rt; made(t.compose(1, &[2])), Some(3));
-    assert_eq!(rt; equate(&mut t, 0, 1), Answer::Cycle);
-    assert_eq!(rt; equate(&mut t, 2, 3), Answer::Unequal(3, 2));
-    assert_eq!(rt; equate(&mut t, 4, 4), Answer::Missing(0));
-    assert_eq!(rt; equate(&mut t, 3, 4), Answer::Missing(1));
+    assert_eq!(rt; t.variable(1), Ok(0));
+    assert_eq!(rt; t.compose(1, &[0]), Ok(1));
+    assert_eq!(rt; t.compose(4, &[]), Ok(2));
+    assert_eq!(rt; t.compose(1, &[2]), Ok(3));
+    assert_eq!(rt; equate(&mut t, 0, 1), Err(EquateFault::Cycle));
+    assert_eq!(rt; equate(&mut t, 2, 3), Err(EquateFault::Unequal(3, 2)));
+    assert_eq!(rt; equate(&mut t, 4, 4), Err(EquateFault::Missing(0)));
+    assert_eq!(rt; equate(&mut t, 3, 4), Err(EquateFault::Missing(1)));
     assert_eq!(rt; t.equation_count(), 0);
     assert_eq!(rt; t.representative(0), Some(0));
-    assert_eq!(rt; equate(&mut t, 1, 3), Answer::Done);
+    assert_eq!(rt; equate(&mut t, 1, 3), Ok(()));
     assert_eq!(rt; t.representative(0), Some(2));
     assert_eq!(rt; t.representative(3), Some(1));
 }
@@ -127,14 +84,17 @@ fn refusals(rt: HostRuntime) {
 #[test]
 fn labels_and_rows(rt: HostRuntime) {
     let mut t = Table::new();
-    assert_eq!(rt; made(t.variable(99)), Some(0));
-    assert_eq!(rt; made(t.variable(99)), Some(0));
+    assert_eq!(rt; t.variable(99), Ok(0));
+    assert_eq!(rt; t.variable(99), Ok(0));
     assert_eq!(rt; t.row_of(99), Some(0));
     assert_eq!(rt; t.row_of(98), None);
-    assert_eq!(rt; is_label(t.variable(100)), true);
-    assert_eq!(rt; missing(t.compose(0, &[0, 1, 2])), Some(1));
-    assert_eq!(rt; is_too_many(t.compose(0, &[9, 0, 0, 0, 0, 0, 0])), true);
-    assert_eq!(rt; made(t.compose(0, &[0, 0, 0, 0, 0, 0])), Some(1));
+    assert_eq!(rt; t.variable(100), Err(RowFault::Label));
+    assert_eq!(rt; t.compose(0, &[0, 1, 2]), Err(RowFault::Missing(1)));
+    assert_eq!(rt;
+        t.compose(0, &[9, 0, 0, 0, 0, 0, 0]),
+        Err(RowFault::TooMany)
+    );
+    assert_eq!(rt; t.compose(0, &[0, 0, 0, 0, 0, 0]), Ok(1));
     assert_eq!(rt; t.row_count(), 2);
 }
 
@@ -142,18 +102,18 @@ fn labels_and_rows(rt: HostRuntime) {
 #[test]
 fn edges(rt: HostRuntime) {
     let mut t = Table::new();
-    assert_eq!(rt; made(t.variable(7)), Some(0));
+    assert_eq!(rt; t.variable(7), Ok(0));
     for p in 1..512u16 {
-        assert_eq!(rt; made(t.compose(0, &[])), Some(p));
+        assert_eq!(rt; t.compose(0, &[]), Ok(p));
     }
-    assert_eq!(rt; is_full(t.compose(0, &[])), true);
-    assert_eq!(rt; missing(t.compose(0, &[512])), Some(0));
-    assert_eq!(rt; is_full(t.variable(8)), true);
-    assert_eq!(rt; made(t.variable(7)), Some(0));
+    assert_eq!(rt; t.compose(0, &[]), Err(RowFault::Full));
+    assert_eq!(rt; t.compose(0, &[512]), Err(RowFault::Missing(0)));
+    assert_eq!(rt; t.variable(8), Err(RowFault::Full));
+    assert_eq!(rt; t.variable(7), Ok(0));
     for _ in 0..128u16 {
-        assert_eq!(rt; equate(&mut t, 511, 510), Answer::Done);
+        assert_eq!(rt; equate(&mut t, 511, 510), Ok(()));
     }
-    assert_eq!(rt; equate(&mut t, 511, 510), Answer::Full);
+    assert_eq!(rt; equate(&mut t, 511, 510), Err(EquateFault::Full));
     assert_eq!(rt; t.representative(511), Some(510));
     assert_eq!(rt; t.equation_count(), 128);
 }
@@ -162,13 +122,13 @@ fn edges(rt: HostRuntime) {
 #[test]
 fn back_over_equations(rt: HostRuntime) {
     let mut t = Table::new();
-    assert_eq!(rt; made(t.variable(1)), Some(0));
-    assert_eq!(rt; made(t.compose(1, &[0])), Some(1));
-    assert_eq!(rt; made(t.compose(4, &[])), Some(2));
-    assert_eq!(rt; made(t.compose(1, &[2])), Some(3));
-    assert_eq!(rt; made(t.variable(2)), Some(4));
-    assert_eq!(rt; equate(&mut t, 1, 3), Answer::Done);
-    assert_eq!(rt; equate(&mut t, 4, 2), Answer::Done);
+    assert_eq!(rt; t.variable(1), Ok(0));
+    assert_eq!(rt; t.compose(1, &[0]), Ok(1));
+    assert_eq!(rt; t.compose(4, &[]), Ok(2));
+    assert_eq!(rt; t.compose(1, &[2]), Ok(3));
+    assert_eq!(rt; t.variable(2), Ok(4));
+    assert_eq!(rt; equate(&mut t, 1, 3), Ok(()));
+    assert_eq!(rt; equate(&mut t, 4, 2), Ok(()));
     assert_eq!(rt; t.representative(4), Some(2));
     assert_eq!(rt; t.back(5, 1), Ok(()));
     assert_eq!(rt; t.representative(4), Some(4));
@@ -180,25 +140,25 @@ fn back_over_equations(rt: HostRuntime) {
     assert_eq!(rt; t.representative(0), Some(0));
     assert_eq!(rt; t.back(0, 0), Ok(()));
     assert_eq!(rt; t.row_count(), 0);
-    assert_eq!(rt; made(t.variable(9)), Some(0));
+    assert_eq!(rt; t.variable(9), Ok(0));
 }
 
 // Rows 0 ?1, 1 grid, 2 paused(grid), with the equation of 0 and 1.
 #[test]
 fn back_refused(rt: HostRuntime) {
     let mut t = Table::new();
-    assert_eq!(rt; made(t.variable(1)), Some(0));
-    assert_eq!(rt; made(t.compose(4, &[])), Some(1));
-    assert_eq!(rt; made(t.compose(1, &[1])), Some(2));
-    assert_eq!(rt; equate(&mut t, 0, 1), Answer::Done);
-    assert_eq!(rt; equate(&mut t, 0, 2), Answer::Unequal(2, 1));
+    assert_eq!(rt; t.variable(1), Ok(0));
+    assert_eq!(rt; t.compose(4, &[]), Ok(1));
+    assert_eq!(rt; t.compose(1, &[1]), Ok(2));
+    assert_eq!(rt; equate(&mut t, 0, 1), Ok(()));
+    assert_eq!(rt; equate(&mut t, 0, 2), Err(EquateFault::Unequal(2, 1)));
     assert_eq!(rt; t.back(4, 2), Err(BackFault::Rows));
     assert_eq!(rt; t.back(3, 2), Err(BackFault::Equations));
     assert_eq!(rt; t.back(1, 2), Err(BackFault::Equations));
     assert_eq!(rt; t.back(1, 1), Err(BackFault::Dropped));
     assert_eq!(rt; t.representative(0), Some(1));
     assert_eq!(rt; t.back(3, 0), Ok(()));
-    assert_eq!(rt; equate(&mut t, 0, 2), Answer::Done);
+    assert_eq!(rt; equate(&mut t, 0, 2), Ok(()));
     assert_eq!(rt; t.representative(0), Some(2));
     assert_eq!(rt; t.back(2, 1), Err(BackFault::Dropped));
     assert_eq!(rt; t.back(2, 0), Ok(()));

@@ -1,55 +1,80 @@
-use Rattle.std.proofs.Common.{ℕ, ◌+◌, ◌≤◌, List, length, sym, subst, arith}
+use Rattle.std.proofs.Common.{◌≡◌, ℕ, ◌+◌, ◌<◌, List, map, length, get_or, refl, sym, ap, ◌∙◌, subst, arith}
+use mathlib.Core.Option.{some}
+use denote.Bor.{Bor}
+use lib.ListN.{get_elem?}
+use Rattle.std.proofs.lemmas.List.{length-map}
+use Rattle.lists.specs.Entries.{entries}
+use Rattle.rows.proofs.Places.{few, long, mapped_at}
+use Rattle.rows.specs.Stored.{Equations, equation_of, equations_of, rows_of}
+use Rattle.rows.specs.declared.equations.Equation.{Equation}
+use Rattle.rows.specs.declared.rows.Rows.{Rows}
 use Rattle.table.proofs.Hands.{coherent_at_hand}
-use Rattle.rows.proofs.Places.{counted}
 use Rattle.table.proofs.Rebuilt.{SidesTo, left_row, right_row, sides_all, sides_more, sound_more, sound_own}
 use Rattle.table.proofs.rebuilding.join_sides.Goals as goal
-use Rattle.table.specs.Joining.{Sound}
+use Rattle.table.specs.Joining.{Sides, Sound, merged}
 use Rattle.table.specs.Sheets.{sheet_of}
-use Rattle.rows.specs.Stored.{equation_of}
-use Rattle.rows.specs.declared.numbers.Numbers.{Numbers}
-use Rattle.rows.specs.declared.rows.Rows.{Rows}
-use Rattle.unification.specs.Sheets.{Sheet}
+use Rattle.unification.specs.Sheets.{IsCoherent}
 
-long : (rows : Rows) (k : Numbers) → rows.len ≤ length k.of
-long rows k = let a = rows.within in let b = k.size in omega arith
+-- The equation at a place of the slice is that of the sheet.
+found : (equations : Equations) (items : List Equation) → items ≡ entries equations → (i : ℕ) → i < length items → get_elem? (equations_of equations) i ≡ some (equation_of (get_or items i (record { left = 0; right = 0 })))
+found equations items e i h =
+    let l = length-map items equation_of in
+    subst (λ (z : List Equation). get_elem? (map equation_of z) i ≡ some (equation_of (get_or items i (record { left = 0; right = 0 })))) e
+    (mapped_at equation_of items i (record { left = 0; right = 0 }) (omega arith))
 
-pub loop-i-init : goal.loop-i-init
-loop-i-init c =
+pub loop-e-init : goal.loop-e-init
+loop-e-init c =
     let rows = c.args.rows.now in
-    let s : Sheet = sheet_of rows c.args.equations.now in (
-      sound_own s rows.len c.own-classes.result.of (λ p h. let w = rows.within in c.own-classes.ensures p (omega arith)),
-      λ k h. absurd (omega arith),
-    )
+    record {
+      rows = refl;
+      sound = sound_own (sheet_of rows c.args.equations.now) _ c.own.result.of (λ p h. let w = few rows in c.own.ensures p (omega arith));
+      sides = λ k h. absurd (omega arith);
+    }
 
 pub merge-requires : goal.merge-requires
 merge-requires c =
     let rows = c.args.rows.now in
     let I = coherent_at_hand c.requires in
-    let k = c.loop-i.classes in
-    let e = equation_of c.at-e.result in
+    let k = c.loop-e.classing.classes in
+    let f = found c.args.equations.now c.as_slice-e-items.result.now c.as_slice-e-items.ensures c.loop-e.e-index c.loop-e-test.true in
+    let r = sym c.loop-e.invariant.rows in
+    let e = get_or c.as_slice-e-items.result.now c.loop-e.e-index (record { left = 0; right = 0 }) in
     record {
-      left = left_row I rows.len (sym (counted rows)) k.of (long rows k) c.loop-i.i e c.at-e.ensures;
-      right = right_row I rows.len (sym (counted rows)) k.of (long rows k) c.loop-i.i e c.at-e.ensures;
-      within = c.loop-i.invariant.0.within;
+      left = subst (λ (z : Rows). e.left < length (rows_of z.items)) r (left_row I _ refl k.of (long rows k) c.loop-e.e-index _ f);
+      right = subst (λ (z : Rows). e.right < length (rows_of z.items)) r (right_row I _ refl k.of (long rows k) c.loop-e.e-index _ f);
     }
 
-pub loop-i-preserved : goal.loop-i-preserved
-loop-i-preserved c =
+pub loop-e-preserved : goal.loop-e-preserved
+loop-e-preserved c =
     let rows = c.args.rows.now in
-    let s : Sheet = sheet_of rows c.args.equations.now in
+    let s = sheet_of rows c.args.equations.now in
+    let n = length s.rows in
     let I = coherent_at_hand c.requires in
-    let k = c.loop-i.classes in
-    let i = c.loop-i.i in
-    let e = equation_of c.at-e.result in (
-      subst (λ (z : List ℕ). Sound s rows.len z) (sym c.merge.ensures) (sound_more I rows.len (sym (counted rows)) k.of (long rows k) i e c.at-e.ensures c.loop-i.invariant.0),
-      subst (λ (z : List ℕ). SidesTo s (i + 1) z) (sym c.merge.ensures) (sides_more I rows.len (sym (counted rows)) k.of (long rows k) i e c.at-e.ensures c.loop-i.invariant.1),
-    )
-
-pub returns : goal.returns
-returns c =
-    let s : Sheet = sheet_of c.args.rows.now c.args.equations.now in
-    let n = c.len-i-end.ensures.equations in
+    let k = c.loop-e.classing.classes in
+    let i = c.loop-e.e-index in
+    let e = equation_of (get_or c.as_slice-e-items.result.now i (record { left = 0; right = 0 })) in
+    let f = found c.args.equations.now c.as_slice-e-items.result.now c.as_slice-e-items.ensures i c.loop-e-test.true in
+    let r = c.loop-e.invariant.rows in
+    let m = sym (c.merge.ensures.classes ∙ ap (λ (z : Rows). merged (rows_of z.items) k.of e.left e.right) r) in
     record {
-      sound = c.loop-i.invariant.0;
-      sides = sides_all s c.loop-i.classes.of (λ k h. c.loop-i.invariant.1 k (omega arith));
+      rows = ap (λ (z : Bor Rows). z.now) c.merge.ensures.rows ∙ r;
+      sound = subst (λ (z : List ℕ). Sound s n z) m (sound_more I n refl k.of (long rows k) i e f c.loop-e.invariant.sound);
+      sides = subst (λ (z : List ℕ). SidesTo s (i + 1) z) m (sides_more I n refl k.of (long rows k) i e f c.loop-e.invariant.sides);
     }
+
+pub invariant_of-result : goal.invariant_of-result
+invariant_of-result c =
+    let equations = c.args.equations.now in
+    let s = sheet_of c.args.rows.now equations in
+    let k = c.loop-e.classing.classes.of in
+    let r = sym c.loop-e.invariant.rows in
+    let l = length-map (entries equations) equation_of in
+    let n = ap length c.as_slice-e-items.ensures in
+    record {
+      coherent = subst (λ (z : Rows). ∥ IsCoherent (sheet_of z equations) ∥₁) r c.requires;
+      sound = subst (λ (z : Rows). Sound (sheet_of z equations) (length (rows_of z.items)) k) r c.loop-e.invariant.sound;
+      sides = subst (λ (z : Rows). Sides (sheet_of z equations) k) r (sides_all s k (λ i h. c.loop-e.invariant.sides i (omega arith)));
+    }
+
+pub returns-clause-rows : goal.returns-clause-rows
+returns-clause-rows c = c.loop-e.invariant.rows

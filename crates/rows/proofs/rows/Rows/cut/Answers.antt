@@ -1,18 +1,15 @@
-use Rattle.std.proofs.Common.{sym, refl, subst, arith}
-use Rattle.rows.proofs.Places.{lower_cut, rows_cut}
+use Rattle.std.proofs.Common.{map, sym, ap, subst, ◌∙◌}
+use Rattle.std.proofs.lemmas.List.{take-map}
+use Rattle.lists.specs.Entries.{entries}
+use Rattle.rows.proofs.Places.{lower_cut}
 use Rattle.rows.proofs.rows.Rows.cut.Goals as goal
-use Rattle.rows.specs.Stored.{Lower, rows_of}
+use Rattle.rows.specs.Stored.{Lower, row_of, rows_of}
 
 pub returns : goal.returns
-returns c = let t = c.args.self.now in record { rows = rows_cut t.items t.len c.args.n c.requires; len = refl }
+returns c = ap (map row_of) c.truncate.ensures ∙ sym (take-map row_of c.args.n (entries c.args.self.now.items))
 
 pub invariant_of-self : goal.invariant_of-self
 invariant_of-self c =
     let t = c.args.self.now in
-    let h = c.requires in
-    record {
-      size = t.size;
-      within = omega (arith, t.within);
-      slots = λ p k. t.slots p (omega arith);
-      lower = subst Lower (sym (rows_cut t.items t.len c.args.n h)) (lower_cut (rows_of t.items t.len) c.args.n t.lower);
-    }
+    let e = ap (map row_of) c.truncate.ensures ∙ sym (take-map row_of c.args.n (entries t.items)) in
+    record { lower = subst Lower (sym e) (lower_cut (rows_of t.items) c.args.n t.lower) }

@@ -1,43 +1,44 @@
-use Rattle.std.proofs.Common.{ℕ, ◌≤◌, refl, subst}
+use Rattle.std.proofs.Common.{◌≡◌, ◌<◌, ℕ, length, refl, arith, ap, true, false}
+use Rattle.fault.specs.Firsts.{Below}
+use Rattle.std.proofs.lemmas.List.{length-map}
+use Rattle.lists.specs.Entries.{entries}
+use Rattle.rows.specs.Stored.{equation_of}
+use Rattle.std.specs.Prelude.{Option, Some, None, MatchOption, is_some}
 use Rattle.table.proofs.Backs.{inside_among, outside_dropped}
 use Rattle.table.proofs.table.Table.back.Goals as goal
 use Rattle.table.specs.Sheets.{sheet_of}
 
-pub returns-in-Some : goal.returns-in-Some
-returns-in-Some c =
-    let t = c.args.self.now in
-    let o = c.in-Some.ensures in
-    record {
-      answer = (
-        subst (λ (z : ℕ). c.args.rows ≤ z) c.len.ensures.rows c.if-n-len.false,
-        subst (λ (z : ℕ). c.args.equations ≤ z) c.len-2.ensures.equations c.if-m-len.false,
-        outside_dropped (sheet_of t.rows t.equations) c.args.rows c.args.equations c.in-Some.field-0 o.0 o.1,
-        refl,
-      );
-      kept = refl;
-      uniform = c.requires;
-    }
+-- What is found, where something is; what holds, where nothing is.
+told : (P : Type 0) (Q : ℕ → Type 0) (r : Option ℕ) → MatchOption r P Q → is_some r ≡ true → (i : ℕ) × Q i
+told P Q None h e = let z : ◌≡◌ {A = ℕ} 0 1 = cc in absurd (omega arith)
+told P Q (Some i) h e = (i, h)
 
-pub first-requires : goal.first-requires
-first-requires c =
-    let t = c.args.self.now in
-    record {
-      rows = subst (λ (z : ℕ). c.args.rows ≤ z) c.len.ensures.value c.if-n-len.false;
-      equations = subst (λ (z : ℕ). c.args.equations ≤ z) c.len-2.ensures.value c.if-m-len.false;
-      among = inside_among (sheet_of t.rows t.equations) c.args.rows c.args.equations c.in_default.ensures;
-      uniform = c.requires;
-    }
+untold : (P : Type 0) (Q : ℕ → Type 0) (r : Option ℕ) → MatchOption r P Q → is_some r ≡ false → P
+untold P Q None h e = h
+untold P Q (Some i) h e = let z : ◌≡◌ {A = ℕ} 0 1 = cc in absurd (omega arith)
 
-pub returns : goal.returns
-returns c =
+pub returns-then-is_some-clause-answer : goal.returns-then-is_some-clause-answer
+returns-then-is_some-clause-answer c =
     let t = c.args.self.now in
-    record {
-      answer = (
-        subst (λ (z : ℕ). c.args.rows ≤ z) c.len.ensures.rows c.if-n-len.false,
-        subst (λ (z : ℕ). c.args.equations ≤ z) c.len-2.ensures.equations c.if-m-len.false,
-        inside_among (sheet_of t.rows t.equations) c.args.rows c.args.equations c.in_default.ensures,
-        c.first.ensures.sheet,
-      );
-      kept = tt;
-      uniform = c.first.ensures.uniform;
-    }
+    let l = length-map (entries t.equations) equation_of in
+    let o = told _ _ c.find_outside.result c.find_outside.ensures (cc) in (
+      omega arith,
+      omega arith,
+      outside_dropped (sheet_of t.rows t.equations) c.args.rows c.args.equations o.0 o.1.0 o.1.1,
+      refl,
+    )
+
+pub first-requires-clause-among : goal.first-requires-clause-among
+first-requires-clause-among c =
+    let t = c.args.self.now in
+    inside_among (sheet_of t.rows t.equations) c.args.rows c.args.equations (untold _ _ c.find_outside.result c.find_outside.ensures (cc))
+
+pub returns-clause-answer : goal.returns-clause-answer
+returns-clause-answer c =
+    let t = c.args.self.now in
+    let l = length-map (entries t.equations) equation_of in (
+      omega arith,
+      omega arith,
+      inside_among (sheet_of t.rows t.equations) c.args.rows c.args.equations (untold _ _ c.find_outside.result c.find_outside.ensures (cc)),
+      c.first.ensures.sheet,
+    )

@@ -1,14 +1,13 @@
-use Rattle.std.proofs.Common.{ℕ, ◌<◌, length, sym, subst}
+use Rattle.std.proofs.Common.{ℕ, sym, subst, arith}
 use Rattle.table.proofs.Hands.{coherent_at_hand, represents_at_hand}
 use Rattle.table.proofs.table.Table.representative.Goals as goal
 use Rattle.table.specs.Sheets.{sheet_of}
-use Rattle.rows.specs.Stored.{rows_of}
 use Rattle.unification.specs.Closures.{Representative}
 
 pub returns : goal.returns
 returns c =
     let t = c.args.self.now in
-    let p = c.args.p in
-    let n = c.len.ensures.rows in
-    let h : p < length (rows_of t.rows.items t.rows.len) = subst (λ (z : ℕ). p < z) n c.if-p-len.false in
-    (h, subst (λ (z : ℕ). Representative (sheet_of t.rows t.equations) z p) (sym c.of.ensures) (represents_at_hand (coherent_at_hand t.coherent) t.represents p h))
+    let p = c.args.p in (
+      omega arith,
+      subst (λ (z : ℕ). Representative (sheet_of t.rows t.equations) z p) (sym c.of.ensures) (represents_at_hand (coherent_at_hand t.coherent) t.represents p (omega arith)),
+    )
