@@ -5,7 +5,7 @@ ghost use Rattle.std.specs.Prelude.{length, MatchOption};
 use crate::source::Source;
 
 /// The most brackets that may be open at once.
-const DEEPEST: usize = 31;
+pub const DEEPEST: usize = 31;
 
 impl Source<'_> {
     /// The first `(` with which more than 31 brackets are open.

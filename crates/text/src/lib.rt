@@ -12,6 +12,7 @@ mod source;
 mod token;
 mod words;
 
+pub use brackets::DEEPEST;
 pub use causes::TextFault;
 pub use check::check_text;
 pub use items::{Item, ItemAt};
