@@ -1,7 +1,7 @@
 use Rattle.std.specs.Prelude.{ℕ, cond, ◌||◌, List, [], ◌++◌, Some, None, codes, decimal, Option, ◌==◌}
 use Rattle.scale.specs.Scales.{Operations}
 use Rattle.vocabulary.specs.Words.{Words, known}
-use Rattle.account.specs.Degrees.{listing}
+use Rattle.scale.specs.Told.{listing}
 use Rattle.account.specs.Names.{name_of}
 
 -- What is told of a number of arguments, if it is known.

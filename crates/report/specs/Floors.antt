@@ -12,7 +12,7 @@ use Rattle.scale.specs.Faults.{degree_refusal}
 use Rattle.scale.specs.Scales.{Operations}
 use Rattle.scale.specs.declared.causes.DegreeFault.TheVariants.{NoDegree}
 use Rattle.vocabulary.specs.Words.{Words}
-use Rattle.account.specs.Degrees.{lines_text, mark_text}
+use Rattle.scale.specs.Told.{lines_text, mark_text}
 use Rattle.report.specs.Reports.{refusal_text}
 use Rattle.account.specs.Words.{words_text}
 

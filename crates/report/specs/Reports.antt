@@ -8,7 +8,7 @@ use Rattle.book.specs.declared.causes.BookFault.TheVariants.{Form, Law}
 use Rattle.fault.specs.Lines.{fault_line}
 use Rattle.layout.specs.Places.{count_of, kind_of, spelling_of}
 use Rattle.scale.specs.Degrees.{line_operations, mark_operations}
-use Rattle.account.specs.Degrees.{lines_text, mark_text}
+use Rattle.scale.specs.Told.{lines_text, mark_text}
 use Rattle.report.specs.Forms.{form_sentence}
 use Rattle.report.specs.Laws.{law_sentence}
 use Rattle.account.specs.Words.{words_text}

@@ -9,7 +9,7 @@ use Rattle.text.specs.Faults.{text_refusal}
 use Rattle.text.specs.Sentences.{says}
 use Rattle.text.specs.Verdicts.{Verdict as TextVerdict}
 use Rattle.text.specs.declared.causes.TextFault.{TextFault}
-use Rattle.account.specs.Degrees.{listing}
+use Rattle.scale.specs.Told.{listing}
 use Rattle.report.specs.Reports.{refusal_text}
 
 -- A caret under a place: so many blanks before it.

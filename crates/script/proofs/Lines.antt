@@ -1,14 +1,11 @@
 -- A line is the writing of one thing only.
-use Rattle.std.proofs.Common.{◌≡◌, ℕ, ◌<◌, Bool, true, false, cond, ◌&&◌, eqb, ltb, List, [], ◌∷◌, ◌++◌, length, get_or, drop, IsUtf8, sym, refl, ap, ◌∙◌, subst, arith}
-use Rattle.std.proofs.ByRecursion.{IsAscii-from_all}
-use Rattle.std.proofs.lemmas.Bool.{and_parts, both_ways, eq-eqb, ltb-true}
-use Rattle.std.proofs.lemmas.Str.{IsUtf8-from_ascii}
-use Rattle.std.specs.List.{AllByRecursion}
+use Rattle.std.proofs.Common.{◌≡◌, ℕ, Bool, true, false, cond, eqb, List, [], ◌∷◌, ◌++◌, length, get_or, drop, Some, None, Option, sym, refl, ap, ◌∙◌, subst, arith}
+use Rattle.std.proofs.lemmas.Bool.{both_ways, eq-eqb}
 use Rattle.script.specs.Fields.{AllNumbers, fields, Solid, Parted, Split}
 use Rattle.script.specs.Verbs.{spelled}
 use Rattle.script.specs.Lines.{Asked, variable, compose, read, equate, back, mark, degree, resolve, verb, behind, named, written, IsLine, Found, Follows}
 use Rattle.script.specs.declared.line.Line.{Line}
-use Rattle.script.specs.declared.line.Line.TheVariants.{Variable as a_variable, Compose as a_compose, Read as a_read, Equate as an_equate, Back as a_back, Mark as a_mark, Degree as a_degree, Resolve as a_resolve, Unknown}
+use Rattle.script.specs.declared.line.Line.TheVariants.{Variable as a_variable, Compose as a_compose, Read as a_read, Equate as an_equate, Back as a_back, Mark as a_mark, Degree as a_degree, Resolve as a_resolve}
 use Rattle.script.specs.declared.verb.Verb.{Verb}
 use Rattle.script.specs.declared.verb.Verb.TheVariants.{Variable, Compose, Read, Equate, Back, Mark, Degree, Resolve}
 use Rattle.script.proofs.Splits.{split_solid, first_field, first_is}
@@ -58,27 +55,6 @@ spelled_solid Back = solid_tested (spelled Back) refl
 spelled_solid Mark = solid_tested (spelled Mark) refl
 spelled_solid Degree = solid_tested (spelled Degree) refl
 spelled_solid Resolve = solid_tested (spelled Resolve) refl
-
-abbrev low : List ℕ → Bool
-low [] = true
-low (b ∷ bs) = ltb b 128 && low bs
-
-low_tested : (w : List ℕ) → low w ≡ true → AllByRecursion (λ b. b < 128) w
-low_tested [] h = tt
-low_tested (b ∷ bs) h = let p = and_parts (ltb b 128) (low bs) h in (ltb-true b 128 p.0, low_tested bs p.1)
-
-low_spelled : (v : Verb) → low (spelled v) ≡ true
-low_spelled Variable = refl
-low_spelled Compose = refl
-low_spelled Read = refl
-low_spelled Equate = refl
-low_spelled Back = refl
-low_spelled Mark = refl
-low_spelled Degree = refl
-low_spelled Resolve = refl
-
-pub spelled_utf8 : (v : Verb) → IsUtf8 (spelled v)
-spelled_utf8 v = IsUtf8-from_ascii (spelled v) (IsAscii-from_all (spelled v) (low_tested (spelled v) (low_spelled v)))
 
 behind_parted : (a : Asked) → Parted (behind a)
 behind_parted (variable x) = refl
@@ -179,19 +155,19 @@ shaped v t a f = subst (λ (w : Verb). Shape w t) f.verbed (go a f.numbers f.is)
     go degree n e = e
     go (resolve p) n e = (p, n, e)
 
-pub found_map : (P Q : Asked → Type 0) → ((a : Asked) → P a → Q a) → ((a : Asked) → Q a → P a) → (r : Line) → Found P r → Found Q r
-found_map P Q f g (a_variable x) h = f (variable x) h
-found_map P Q f g (a_compose w rows) h = (h.0, h.1, f (compose w h.0) h.2)
-found_map P Q f g (a_read t) h = f (read t.now) h
-found_map P Q f g (an_equate p q) h = f (equate p q) h
-found_map P Q f g (a_back p q) h = f (back p q) h
-found_map P Q f g a_mark h = f mark h
-found_map P Q f g a_degree h = f degree h
-found_map P Q f g (a_resolve p) h = f (resolve p) h
-found_map P Q f g Unknown h = λ a q. h a (g a q)
+pub found_map : (P Q : Asked → Type 0) → ((a : Asked) → P a → Q a) → ((a : Asked) → Q a → P a) → (r : Option Line) → Found P r → Found Q r
+found_map P Q f g (Some (a_variable x)) h = f (variable x) h
+found_map P Q f g (Some (a_compose w rows)) h = (h.0, h.1, f (compose w h.0) h.2)
+found_map P Q f g (Some (a_read t)) h = f (read t.now) h
+found_map P Q f g (Some (an_equate p q)) h = f (equate p q) h
+found_map P Q f g (Some (a_back p q)) h = f (back p q) h
+found_map P Q f g (Some a_mark) h = f mark h
+found_map P Q f g (Some a_degree) h = f degree h
+found_map P Q f g (Some (a_resolve p)) h = f (resolve p) h
+found_map P Q f g None h = λ a q. h a (g a q)
 
 -- From what stands behind the verb to the whole line.
-pub found_line : (line word rest : List ℕ) → Split line word rest → (v : Verb) → word ≡ spelled v → (r : Line) → Found (Follows v rest) r → Found (IsLine line) r
+pub found_line : (line word rest : List ℕ) → Split line word rest → (v : Verb) → word ≡ spelled v → (r : Option Line) → Found (Follows v rest) r → Found (IsLine line) r
 found_line line word rest s v e r h =
     found_map (Follows v rest) (IsLine line)
     (λ a f. record { numbers = f.numbers; is = s.whole ∙ (λ i. whole a f i) })

@@ -86,6 +86,12 @@ module _ (bytes field digits rest : List ℕ) (blank : bytes ≡ 32 ∷ field) (
       let s = split_solid (decimal n) digits back rest (decimal_solid n f.number) split.solid f.parted split.parted (sym same ∙ split.whole) in
       none n f.number s.0
 
+-- Bytes of which none of the first n is a blank.
+pub solid_within : (bytes : List ℕ) (n : ℕ) → ((k : ℕ) → k < n → get_or bytes k 0 ≡ 32 → ⊥) → Solid (take n bytes)
+solid_within bytes zero h = tt
+solid_within [] (suc n) h = tt
+solid_within (b ∷ bytes) (suc n) h = (h 0 (omega arith), solid_within bytes n (λ k l. h (suc k) (omega arith)))
+
 -- The first field of fields.
 pub first_field : (bytes : List ℕ) (n : ℕ) (ns : List ℕ) → AllNumbers (n ∷ ns) → bytes ≡ fields (n ∷ ns) → Field bytes n (fields ns)
 first_field bytes n ns a e = record { number = a.0; first = e; parted = fields_parted ns }

@@ -1,8 +1,8 @@
-use Rattle.std.specs.Prelude.{◌≡◌, ℕ, List, [], ◌∷◌, ◌++◌}
+use Rattle.std.specs.Prelude.{◌≡◌, ℕ, List, [], ◌∷◌, ◌++◌, Some, None, Option}
 use Rattle.script.specs.Fields.{AllNumbers, fields}
 use Rattle.script.specs.Verbs.{spelled}
 use Rattle.script.specs.declared.line.Line.{Line}
-use Rattle.script.specs.declared.line.Line.TheVariants.{Variable, Compose, Read, Equate, Back, Mark, Degree, Resolve, Unknown}
+use Rattle.script.specs.declared.line.Line.TheVariants.{Variable, Compose, Read, Equate, Back, Mark, Degree, Resolve}
 use Rattle.script.specs.declared.verb.Verb.{Verb}
 use Rattle.script.specs.declared.verb.Verb.TheVariants.{Variable as to_variable, Compose as to_compose, Read as to_read, Equate as to_equate, Back as to_back, Mark as to_mark, Degree as to_degree, Resolve as to_resolve}
 
@@ -67,20 +67,20 @@ pub record IsLine (line : List ℕ) (a : Asked) : Type 0 where
   pub numbers : AllNumbers (named a)
   pub is : line ≡ written a
 
--- Of all that may be asked, the answer is the one of which P holds, and unknown where there is none.
-abbrev pub Found : (Asked → Type 0) → Line → Type 0
-Found P (Variable x) = P (variable x)
-Found P (Compose w rows) = (ps : List ℕ) × (rows.now ≡ fields ps) × P (compose w ps)
-Found P (Read t) = P (read t.now)
-Found P (Equate p q) = P (equate p q)
-Found P (Back r e) = P (back r e)
-Found P Mark = P mark
-Found P Degree = P degree
-Found P (Resolve p) = P (resolve p)
-Found P Unknown = (a : Asked) → P a → ⊥
+-- Of all that may be asked, the answer is the one of which P holds, and nothing where there is none.
+abbrev pub Found : (Asked → Type 0) → Option Line → Type 0
+Found P (Some (Variable x)) = P (variable x)
+Found P (Some (Compose w rows)) = (ps : List ℕ) × (rows.now ≡ fields ps) × P (compose w ps)
+Found P (Some (Read t)) = P (read t.now)
+Found P (Some (Equate p q)) = P (equate p q)
+Found P (Some (Back r e)) = P (back r e)
+Found P (Some Mark) = P mark
+Found P (Some Degree) = P degree
+Found P (Some (Resolve p)) = P (resolve p)
+Found P None = (a : Asked) → P a → ⊥
 
--- What parsing a line answers: what it asks for, or that it is no line; and it asks for one thing at most.
-pub record Parsed (line : List ℕ) (r : Line) : Type 0 where
+-- What parsing a line answers: what it asks for, or nothing where it is no line; and it asks for one thing at most.
+pub record Parsed (line : List ℕ) (r : Option Line) : Type 0 where
   pub found : Found (IsLine line) r
   pub only : (a b : Asked) → IsLine line a → IsLine line b → a ≡ b
 

@@ -10,11 +10,7 @@ fn first_blank(bytes: &[u8]) -> usize
     ensures solid { Solid (take result bytes.now) }
     ensures parted { Parted (drop result bytes.now) }
 {
-    let mut at = 0;
-    while at < bytes.len() && bytes[at] != b' ' {
-        at += 1;
-    }
-    at
+    bytes.iter().position(|b| *b == b' ').unwrap_or(bytes.len())
 }
 
 /// What stands before the first blank, and the rest from the blank on.
@@ -45,10 +41,10 @@ fn number(digits: &[u8]) -> Option<u16>
     if !is_plain(digits) {
         return None;
     }
-    match str::from_utf8(digits) {
-        Ok(text) => text.parse::<u16>().ok(),
-        Err(_) => None,
-    }
+    let Ok(text) = str::from_utf8(digits) else {
+        return None;
+    };
+    text.parse::<u16>().ok()
 }
 
 /// The number of the first field, and what stands behind it; nothing where the bytes begin with no such field.
@@ -57,10 +53,7 @@ pub fn next_number<'a>(bytes: &'a [u8]) -> Option<(u16, &'a [u8])>
 {
     let field = after_blank(bytes)?;
     let (digits, rest) = split_blank(field);
-    match number(digits) {
-        Some(n) => Some((n, rest)),
-        None => None,
-    }
+    Some((number(digits)?, rest))
 }
 
 /// The numbers of fields, in their order.

@@ -4,8 +4,7 @@ ghost use Rattle.script.specs.Lines.{Follows, Found, Parsed};
 ghost use Rattle.script.specs.declared.verb.Verb.TheVariants.{Compose as to_compose};
 
 use crate::field::{after_blank, next_number, split_blank};
-use crate::verb::{Verb, verb_named};
-use std::str;
+use crate::verb::Verb;
 
 /// A line of a script: what it asks for.
 #[derive(Clone, Copy, PartialEq, Eq, Debug)]
@@ -26,31 +25,22 @@ pub enum Line<'a> {
     Degree,
     /// `resolve ROW`
     Resolve(u16),
-    /// None of these.
-    Unknown,
 }
 
 /// The number of a lone field.
 fn one_number(bytes: &[u8]) -> Option<u16>
     ensures { MatchOption result ((n : ℕ) → AllNumbers (n ∷ []) → bytes.now ≢ fields (n ∷ [])) (λ n. AllNumbers (n ∷ []) × (bytes.now ≡ fields (n ∷ []))) }
 {
-    match next_number(bytes) {
-        Some((n, rest)) => { if rest.is_empty() { Some(n) } else { None } }
-        None => None,
-    }
+    let (n, rest) = next_number(bytes)?;
+    if rest.is_empty() { Some(n) } else { None }
 }
 
 /// The numbers of two fields.
 fn two_numbers(bytes: &[u8]) -> Option<(u16, u16)>
     ensures { MatchOption result ((m n : ℕ) → AllNumbers (m ∷ n ∷ []) → bytes.now ≢ fields (m ∷ n ∷ [])) (λ x. AllNumbers (x.0 ∷ x.1 ∷ []) × (bytes.now ≡ fields (x.0 ∷ x.1 ∷ []))) }
 {
-    match next_number(bytes) {
-        Some((m, rest)) => match one_number(rest) {
-            Some(n) => Some((m, n)),
-            None => None,
-        },
-        None => None,
-    }
+    let (m, rest) = next_number(bytes)?;
+    Some((m, one_number(rest)?))
 }
 
 /// Whether the bytes are fields of numbers, however many.
@@ -59,77 +49,52 @@ fn are_numbers(bytes: &[u8]) -> bool
 {
     let mut left = bytes;
     while !left.is_empty() {
-        match next_number(left) {
-            Some((_, rest)) => left = rest,
-            None => return false,
-        }
+        let Some((_, rest)) = next_number(left) else {
+            return false;
+        };
+        left = rest;
     }
     true
 }
 
 /// The line of a word and rows, by what stands behind its verb.
-fn compose_line<'a>(rest: &'a [u8]) -> Line<'a>
+fn compose_line<'a>(rest: &'a [u8]) -> Option<Line<'a>>
     ensures { Found (Follows to_compose rest.now) result }
 {
-    match next_number(rest) {
-        Some((word, rows)) => {
-            if are_numbers(rows) {
-                Line::Compose(word, rows)
-            } else {
-                Line::Unknown
-            }
-        }
-        None => Line::Unknown,
+    let (word, rows) = next_number(rest)?;
+    if are_numbers(rows) {
+        Some(Line::Compose(word, rows))
+    } else {
+        None
     }
 }
 
 /// The line of a verb, by what stands behind the verb.
-fn line_of<'a>(verb: Verb, rest: &'a [u8]) -> Line<'a>
+fn line_of<'a>(verb: Verb, rest: &'a [u8]) -> Option<Line<'a>>
     ensures { Found (Follows verb rest.now) result }
 {
     match verb {
-        Verb::Variable => match one_number(rest) {
-            Some(label) => Line::Variable(label),
-            None => Line::Unknown,
-        },
+        Verb::Variable => Some(Line::Variable(one_number(rest)?)),
         Verb::Compose => compose_line(rest),
-        Verb::Read => match after_blank(rest) {
-            Some(text) => Line::Read(text),
-            None => Line::Unknown,
-        },
-        Verb::Equate => match two_numbers(rest) {
-            Some((p, q)) => Line::Equate(p, q),
-            None => Line::Unknown,
-        },
-        Verb::Back => match two_numbers(rest) {
-            Some((rows, equations)) => Line::Back(rows, equations),
-            None => Line::Unknown,
-        },
-        Verb::Mark => match rest {
-            [] => Line::Mark,
-            _ => Line::Unknown,
-        },
-        Verb::Degree => match rest {
-            [] => Line::Degree,
-            _ => Line::Unknown,
-        },
-        Verb::Resolve => match one_number(rest) {
-            Some(row) => Line::Resolve(row),
-            None => Line::Unknown,
-        },
+        Verb::Read => Some(Line::Read(after_blank(rest)?)),
+        Verb::Equate => {
+            let (p, q) = two_numbers(rest)?;
+            Some(Line::Equate(p, q))
+        }
+        Verb::Back => {
+            let (rows, equations) = two_numbers(rest)?;
+            Some(Line::Back(rows, equations))
+        }
+        Verb::Mark => rest.is_empty().then_some(Line::Mark),
+        Verb::Degree => rest.is_empty().then_some(Line::Degree),
+        Verb::Resolve => Some(Line::Resolve(one_number(rest)?)),
     }
 }
 
-/// What a line asks for.
-pub fn parse_line<'a>(line: &'a [u8]) -> Line<'a>
+/// What a line asks for; nothing where it is no line of a script.
+pub fn parse_line<'a>(line: &'a [u8]) -> Option<Line<'a>>
     ensures { Parsed line.now result }
 {
     let (word, rest) = split_blank(line);
-    match str::from_utf8(word) {
-        Ok(word) => match verb_named(word) {
-            Some(verb) => line_of(verb, rest),
-            None => Line::Unknown,
-        },
-        Err(_) => Line::Unknown,
-    }
+    line_of(Verb::named(word)?, rest)
 }

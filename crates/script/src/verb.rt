@@ -15,19 +15,21 @@ pub enum Verb {
     Resolve,
 }
 
-/// The verb that is written so.
-pub fn verb_named(word: &str) -> Option<Verb>
-    ensures { MatchOption result ((v : Verb) → word.now ≢ spelled v) (λ v. word.now ≡ spelled v) }
-{
-    match word {
-        "variable" => Some(Verb::Variable),
-        "compose" => Some(Verb::Compose),
-        "read" => Some(Verb::Read),
-        "equate" => Some(Verb::Equate),
-        "back" => Some(Verb::Back),
-        "mark" => Some(Verb::Mark),
-        "degree" => Some(Verb::Degree),
-        "resolve" => Some(Verb::Resolve),
-        _ => None,
+impl Verb {
+    /// The verb that is written so.
+    pub fn named(word: &[u8]) -> Option<Verb>
+        ensures { MatchOption result ((v : Verb) → word.now ≢ spelled v) (λ v. word.now ≡ spelled v) }
+    {
+        match word {
+            b"variable" => Some(Verb::Variable),
+            b"compose" => Some(Verb::Compose),
+            b"read" => Some(Verb::Read),
+            b"equate" => Some(Verb::Equate),
+            b"back" => Some(Verb::Back),
+            b"mark" => Some(Verb::Mark),
+            b"degree" => Some(Verb::Degree),
+            b"resolve" => Some(Verb::Resolve),
+            _ => None,
+        }
     }
 }

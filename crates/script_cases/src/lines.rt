@@ -20,7 +20,7 @@ fn asked(rt: HostRuntime) {
         (b"resolve 511", Line::Resolve(511)),
     ];
     for (line, expected) in cases {
-        assert_eq!(rt; parse_line(line), expected);
+        assert_eq!(rt; parse_line(line), Some(expected));
     }
 }
 
@@ -55,29 +55,21 @@ fn unknown(rt: HostRuntime) {
         b"resolve\xff",
     ];
     for line in lines {
-        assert_eq!(rt; parse_line(line), Line::Unknown);
+        assert_eq!(rt; parse_line(line), None);
     }
 }
 
 #[test]
 fn rows(rt: HostRuntime) -> Result<(), Fail> {
     let rows = numbers(rt.alloc(), b" 3 12 0")?;
-    assert_eq!(rt; rows.len(), 3);
-    assert_eq!(rt; rows[0], 3);
-    assert_eq!(rt; rows[1], 12);
-    assert_eq!(rt; rows[2], 0);
+    assert_eq!(rt; rows.as_slice(), [3, 12, 0].as_slice());
     let none = numbers(rt.alloc(), b"")?;
-    assert_eq!(rt; none.len(), 0);
+    assert!(rt; none.is_empty());
     assert!(rt; next_number(b"3").is_none());
-    match next_number(b" 65535 1") {
-        Some((n, rest)) => {
-            assert_eq!(rt; n, 65535);
-            assert_eq!(rt; rest.len(), 2);
-            Ok(())
-        }
-        None => {
-            assert!(rt; false);
-            Ok(())
-        },
-    }
+    let Some((n, rest)) = next_number(b" 65535 1") else {
+        return Err(Fail::new("no number"));
+    };
+    assert_eq!(rt; n, 65535);
+    assert_eq!(rt; rest.len(), 2);
+    Ok(())
 }

@@ -1,5 +1,5 @@
 use Rattle.std.proofs.Common.{[], ◌∙◌, arith}
-use Rattle.account.proofs.Listings.{listing_all, listing_more, listing_none}
+use Rattle.scale.proofs.Listings.{listing_all, listing_more, listing_none}
 use Rattle.account.proofs.words.account.Goals as goal
 
 pub loop-f-init : goal.loop-f-init

@@ -1,5 +1,5 @@
 use Rattle.std.proofs.Common.{◌≡◌, [], ◌++◌, string_bytes}
-use Rattle.account.specs.Degrees.{listing}
+use Rattle.scale.specs.Told.{listing}
 use Rattle.account.specs.Words.{word_text}
 use Rattle.account.proofs.words.account.Given as goal
 

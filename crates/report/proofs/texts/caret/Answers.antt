@@ -1,5 +1,5 @@
 use Rattle.std.proofs.Common.{ℕ, List, [], ◌++◌, codes, refl, ap, ◌∙◌, arith}
-use Rattle.account.proofs.Listings.{listing_all, listing_more, listing_none}
+use Rattle.scale.proofs.Listings.{listing_all, listing_more, listing_none}
 use Rattle.report.proofs.texts.caret.Goals as goal
 
 pub loop-blank-init : goal.loop-blank-init

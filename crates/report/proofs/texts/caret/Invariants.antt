@@ -1,5 +1,5 @@
 use Rattle.std.proofs.Common.{◌≡◌, [], ◌++◌, string_bytes, codes}
-use Rattle.account.specs.Degrees.{listing}
+use Rattle.scale.specs.Told.{listing}
 use Rattle.report.proofs.texts.caret.Given as goal
 
 abbrev pub invariant-loop-blank : goal.invariant-loop-blank

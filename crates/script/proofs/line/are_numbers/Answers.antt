@@ -14,11 +14,11 @@ loop-left-preserved c =
       (λ r. rows_on left rest _ c.in-Some.ensures (c.loop-left.invariant.1 r)),
     )
 
-pub returns-in-None : goal.returns-in-None
-returns-in-None c =
+pub returns-in_default : goal.returns-in_default
+returns-in_default c =
     let left = c.loop-left.left.now in (
       (λ t. absurd (both_ways false refl t)),
-      (λ r. absurd (rows_none left (not_empty left _ c.is_empty.ensures c.loop-left-test.true) c.in-None.ensures (c.loop-left.invariant.1 r))),
+      (λ r. absurd (rows_none left (not_empty left _ c.is_empty.ensures c.loop-left-test.true) c.in_default.ensures (c.loop-left.invariant.1 r))),
     )
 
 pub returns : goal.returns

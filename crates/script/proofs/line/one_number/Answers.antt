@@ -4,5 +4,5 @@ use Rattle.script.proofs.line.one_number.Goals as goal
 
 pub returns-else-is_empty : goal.returns-else-is_empty
 returns-else-is_empty c n a e =
-    let s = first_is c.args.bytes.now _ _ n [] c.in-Some.ensures a e in
-    not_empty c.in-Some.rest.now _ c.is_empty.ensures c.if-is_empty.false (ap length s.1)
+    let s = first_is c.args.bytes.now _ _ n [] c.in_ok-n.ensures a e in
+    not_empty c.in_ok-n.rest.now _ c.is_empty.ensures c.if-is_empty.false (ap length s.1)

@@ -1,6 +1,6 @@
 use Rattle.std.proofs.Common.{◌∙◌, arith}
-use Rattle.account.proofs.Listings.{listing_all, listing_more, listing_none}
-use Rattle.account.proofs.words.word_lines.Goals as goal
+use Rattle.scale.proofs.Listings.{listing_all, listing_more, listing_none}
+use Rattle.account.proofs.words.Telling.word_lines.Goals as goal
 
 pub loop-g-init : goal.loop-g-init
 loop-g-init g c = c.in_ok-text.ensures ∙ listing_none _ _
