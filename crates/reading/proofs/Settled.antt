@@ -21,7 +21,7 @@ pub table_coherent : (t : Table) → IsCoherent (sheet_of t.rows t.equations)
 table_coherent t = coherent_at_hand t.coherent
 
 pub table_short : (t : Table) → length (sheet_of t.rows t.equations).rows ≤ 512
-table_short t = let b = t.rows.within in simp (length-map, length-take) (omega arith)
+table_short t = let b = t.rows.items.within in simp (length-map, length-take) (omega arith)
 
 -- A refusal changes nothing.
 pub kept_same : {A T E : Type 0} (r : Result T E) (x : A) → KeptOnErr r x x
