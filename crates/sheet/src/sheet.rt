@@ -106,10 +106,9 @@ impl<'a, V: Vocabulary> Sheet<'a, V> {
         if gather(self.vocabulary, &self.table, &classes) == V::Degree::bottom() {
             return Err(EquateFault::Clash);
         }
-        let depths = self
-            .table
-            .deepen(e, &classes)
-            .ok_or(EquateFault::Occurs)?;
+        let Some(depths) = self.table.deepen(e, &classes) else {
+            return Err(EquateFault::Occurs);
+        };
         self.table.commit(e, &classes, &depths);
         Ok(())
     }
