@@ -241,12 +241,6 @@ module _ (arities : List ℕ) (start : Sheet) (t : Term) (w : OpenWord) (ws : Li
   pub made_room : Made arities start t (w ∷ ws) p s es → length (given_to w) < 6
   made_room m = room_by m.frames m.opened
 
-  pub made_few : Made arities start t (w ∷ ws) p s es → length ws < 31
-  made_few m =
-      let b = framed_depth arities s m.frames m.depth m.framed in
-      let c = open_length (w ∷ ws) m.frames m.opened in
-      omega arith
-
   module _ (v : OpenWord) (g : OneMore w p v) where
     rows_are : (f : ℕ) (rows : List ℕ) (rest : Terms) → IsOpen w (frame f rows rest) → given_to v ≡ rows ++ (p ∷ [])
     rows_are f rows rest o = g.rows ∙ ap (λ (l : List ℕ). l ++ (p ∷ [])) o.rows
@@ -347,10 +341,6 @@ made_whole arities start t p s es m = go m.frames m.opened m.leads m.left
 -- A refusal says that there are too many rows.
 pub comes_refused : (arities : List ℕ) (start : Sheet) (t : Term) (r : Result (Option ℕ) NoRoom) (e : NoRoom) (ws : List OpenWord) (s : Sheet) (es : List Entry) → r ≡ Err e → Overfull start t → Comes arities start t r ws s es
 comes_refused arities start t r e ws s es is h = subst (λ (q : Result (Option ℕ) NoRoom). Comes arities start t q ws s es) (sym is) h
-
-pub made_moved : (arities : List ℕ) (start : Sheet) (t : Term) (ws : List OpenWord) (p q : ℕ) (u v : Sheet) (es : List Entry) → q ≡ p → v ≡ u → Made arities start t ws p u es → Made arities start t ws q v es
-made_moved arities start t ws p q u v es e f m =
-    subst (λ (z : Sheet). Made arities start t ws q z es) (sym f) (subst (λ (k : ℕ). Made arities start t ws k u es) (sym e) m)
 
 -- What else comes of a step.
 pub comes_whole : (arities : List ℕ) (start : Sheet) (t : Term) (r : Result (Option ℕ) NoRoom) (o : Option ℕ) (p : ℕ) (ws : List OpenWord) (s : Sheet) (es : List Entry) → r ≡ Ok o → o ≡ Some p → Comes arities start t r ws s es → Put start t p s

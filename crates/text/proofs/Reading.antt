@@ -296,9 +296,6 @@ pub record SoFar (text : List ℕ) (at m : ℕ) : Type 0 where
   pub to : (e : ℕ) → ArgumentsTo text m e → ArgumentsTo text at e
   pub stops : (p : ℕ) → ArgumentsStop text m p → ArgumentsStop text at p
 
-pub none_yet : (text : List ℕ) (at : ℕ) → at < length text → SoFar text at at
-none_yet text at h = record { past = omega arith; within = h; to = λ e s. s; stops = λ p s. s }
-
 pub one_further : (text : List ℕ) (at m e : ℕ) (q : Token × ℕ) → SoFar text at m → PhraseTo text (m + 1) e → Lexed text e q → q.0 ≡ Comma → SoFar text at e
 one_further text at m e q f s l c = record {
   past = omega (arith, f.past, s.past);

@@ -44,28 +44,7 @@ goes_while (suc k) (b ∷ bs) =
       | false ↦ λ h. record { few = omega arith; within = omega arith; goes = refl; stops = λ _. h }
     ] refl)
 
-pub digit_range : (d : ℕ) → digit d ≡ true → (48 ≤ d) × (d ≤ 57)
-digit_range d h =
-    let p = and_parts (leb 48 d) (leb d 57) h in
-    (leb-true 48 d p.0, leb-true d 57 p.1)
-
-pub decimal_one : (d : ℕ) → digit d ≡ true → decimal (d - 48) ≡ d ∷ []
-decimal_one d h =
-    let r = digit_range d h in
-    let lt : ltb (d - 48) 10 ≡ true = lt-ltb (d - 48) 10 (omega arith) in
-    let e : 48 + (d - 48) ≡ d = omega arith in
-    rw lt (ap (λ x. x ∷ []) e)
-
-pub decimal_two : (d e : ℕ) → digit d ≡ true → digit e ≡ true → (d - 48 ≡ 0 → ⊥) → decimal ((d - 48) * 10 + (e - 48)) ≡ d ∷ (e ∷ [])
-decimal_two d e h k nz =
-    let r = digit_range d h in
-    let s = digit_range e k in
-    let ge : ltb ((d - 48) * 10 + (e - 48)) 10 ≡ false = le-ltb ((d - 48) * 10 + (e - 48)) 10 (omega arith) in
-    let x : 48 + ((d - 48) * 10 + (e - 48)) / 10 ≡ d = omega arith in
-    let y : 48 + ((d - 48) * 10 + (e - 48)) % 10 ≡ e = omega arith in
-    rw ge (cc (x, y))
-
--- the next one, two, three bytes
+-- the next byte
 pub one_on : (text : List ℕ) (i b : ℕ) → i < length text → get_or text i 0 ≡ b → drop i text ≡ b ∷ drop (i + 1) text
 one_on text i b h e = drop_more text i 0 h ∙ ap (λ x. x ∷ drop (i + 1) text) e
 
@@ -87,9 +66,6 @@ part_on text at e h =
 pub ranged : (b : ℕ) → 97 ≤ b → b ≤ 122 → small b ≡ true
 ranged b h k = grind (arith, nat_tests)
 
-pub outside : (b : ℕ) → (b < 97) ⊎ (122 < b) → (b ≡ 40 → ⊥) → (b ≡ 41 → ⊥) → (b ≡ 44 → ⊥) → (b ≡ 63 → ⊥) → begins b ≡ false
-outside b h p q r s = grind (arith, nat_tests)
-
 -- what is lent from a place on
 pub to_end : (text : List ℕ) (i : ℕ) → take (length text - i) (drop i text) ≡ drop i text
 to_end text i = ap (λ n. take n (drop i text)) (sym (length-drop i text)) ∙ take-length (drop i text)
@@ -109,14 +85,6 @@ lexed_word text at e w h s end is =
       read = part_on text at e (omega arith) ∙ ap (λ l. l ++ drop e text) (sym is);
       fair = (subst IsWord (sym is) k.0, λ l. subst (Stop in_word) (drop-drop n (at + 1) text ∙ ap (λ i. drop i text) x) (g.stops (omega (arith, ap length is, k.1))));
     }
-
-pub lexed_one : (text : List ℕ) (at : ℕ) (tok : Token) (b : ℕ) → at < length text → get_or text at 0 ≡ b → spell (part tok) ≡ b ∷ [] → ((rest : List ℕ) → Fair (part tok) rest) → Lexed text at (tok, at + 1)
-lexed_one text at tok b h e s f = record {
-  past = omega arith;
-  within = omega arith;
-  read = one_on text at b h e ∙ ap (λ l. l ++ drop (at + 1) text) (sym s);
-  fair = f (drop (at + 1) text);
-}
 
 -- a spelling, read from its front
 wordy_signs : (s : List ℕ) → wordy s ≡ true → (k : ℕ) → k < length s → in_word (get_or s k 0) ≡ true

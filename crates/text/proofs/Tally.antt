@@ -73,39 +73,9 @@ pub tally_arguments : (p : Phrase) (ps : Phrases) (k : List ℕ) → Sound p →
 tally_arguments p ps k s r =
     ap (tally 0 1) (append_assoc (bytes p) (following ps) k) ∙ tally_phrase p (following ps ++ k) 0 1 s ∙ tally_following ps k 1 r ∙ omega arith
 
--- What the loop over the bytes does at place i.
-module _ (text : List ℕ) (i d c : ℕ) (lt : i < length text) where
-  here : tally d c (drop i text) ≡ tally d c (get_or text i 0 ∷ drop (i + 1) text)
-  here = at_drop_more (tally d c) text i 0 lt
-
-  at_byte : (b : ℕ) → get_or text i 0 ≡ b → tally d c (drop i text) ≡ tally d c (b ∷ drop (i + 1) text)
-  at_byte b e = here ∙ ap (λ x. tally d c (x ∷ drop (i + 1) text)) e
-
-  pub in_open : get_or text i 0 ≡ 40 → tally (d + 1) c (drop (i + 1) text) ≡ tally d c (drop i text)
-  in_open e = ap (λ n. tally n c (drop (i + 1) text)) (add-one d) ∙ sym (at_byte 40 e)
-
-  pub in_close : get_or text i 0 ≡ 41 → 0 < d → tally (d - 1) c (drop (i + 1) text) ≡ tally d c (drop i text)
-  in_close e some =
-      let q : d ≡ suc (d - 1) = omega arith in
-      sym (ap (λ n. tally n c (drop (i + 1) text)) refl) ∙ sym (ap (λ n. tally n c (41 ∷ drop (i + 1) text)) q) ∙ sym (at_byte 41 e)
-
-  pub closes : get_or text i 0 ≡ 41 → d ≡ 0 → tally d c (drop i text) ≡ c
-  closes e z = at_byte 41 e ∙ ap (λ n. tally n c (41 ∷ drop (i + 1) text)) z
-
-  pub in_comma : get_or text i 0 ≡ 44 → d ≡ 0 → tally d (c + 1) (drop (i + 1) text) ≡ tally d c (drop i text)
-  in_comma e z = ap (λ n. tally n (c + 1) (drop (i + 1) text)) z ∙ sym (ap (λ n. tally n c (44 ∷ drop (i + 1) text)) z) ∙ sym (at_byte 44 e)
-
-  pub in_inner_comma : get_or text i 0 ≡ 44 → 0 < d → tally d c (drop (i + 1) text) ≡ tally d c (drop i text)
-  in_inner_comma e some =
-      let q : d ≡ suc (d - 1) = omega arith in
-      ap (λ n. tally n c (drop (i + 1) text)) q ∙ sym (ap (λ n. tally n c (44 ∷ drop (i + 1) text)) q) ∙ sym (at_byte 44 e)
-
-  pub in_other : (get_or text i 0 ≡ 40 → ⊥) → (get_or text i 0 ≡ 41 → ⊥) → (get_or text i 0 ≡ 44 → ⊥) → tally d c (drop (i + 1) text) ≡ tally d c (drop i text)
-  in_other x y z =
-      let a = ne_eqb (get_or text i 0) 40 x in
-      let b = ne_eqb (get_or text i 0) 41 y in
-      let e = ne_eqb (get_or text i 0) 44 z in
-      sym (here ∙ tally_other (get_or text i 0) d c (drop (i + 1) text) (grind (arith, nat_tests)))
+-- At the `)` that closes the list of arguments, all are counted.
+pub closes : (text : List ℕ) (i d c : ℕ) → i < length text → get_or text i 0 ≡ 41 → d ≡ 0 → tally d c (drop i text) ≡ c
+closes text i d c lt e z = at_drop_more (tally d c) text i 0 lt ∙ (λ k. tally (z k) c (e k ∷ drop (i + 1) text))
 
 pub unopened : (b : ℕ) → (b ≡ 40 → ⊥) → opens b ≡ false
 unopened b h = ne_eqb b 40 h
