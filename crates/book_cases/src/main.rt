@@ -5,7 +5,7 @@
 #![tactic(auto)]
 
 use anyhow::Context;
-use book::{Kind, check};
+use book::check;
 use fault::Cause;
 
 #[cfg(test)]
@@ -42,8 +42,7 @@ fn judge(rt: &HostRuntime, line: &str) -> anyhow::Result<()> {
         put_all(&mut bytes, item)?;
     }
     match check(bytes.as_slice()) {
-        Ok(Kind::Marks) => println!(rt; "{name} marks")?,
-        Ok(Kind::Lines) => println!(rt; "{name} lines")?,
+        Ok(kind) => println!(rt; "{name} {kind}")?,
         Err(cause) => println!(rt; "{name} {}", cause.fault())?,
     }
     Ok(())
