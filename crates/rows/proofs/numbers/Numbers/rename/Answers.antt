@@ -1,5 +1,4 @@
-use Rattle.std.proofs.Common.{◌≡◌, ℕ, ◌≤◌, List, ◌++◌, map, length, get_or, take, drop, ap, ◌∙◌, arith}
-use Rattle.std.proofs.lemmas.List.{take_all, drop_all, append-nil, length-map}
+use Rattle.std.proofs.Common.{ℕ, get_or, ◌∙◌, arith}
 use Rattle.rows.specs.Labels.{renamed}
 use Rattle.rows.proofs.Renaming.{map_step, renamed_same, renamed_other}
 use Rattle.rows.proofs.numbers.Numbers.rename.Goals as goal

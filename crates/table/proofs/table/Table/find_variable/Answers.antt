@@ -1,18 +1,15 @@
-use Rattle.std.proofs.Common.{◌≡◌, ◌<◌, ℕ, List, map, length, get_or, sym, ap, ◌∙◌, subst, arith, rules, tests}
+use Rattle.std.proofs.Common.{◌≡◌, ◌<◌, ℕ, List, map, length, ap, arith, rules, tests}
 use lib.ListN.{get_elem?}
 use mathlib.Core.Option.{some}
 use Rattle.std.proofs.lemmas.Iterator.{IsFirst-from_position, YieldsList-from_slice}
 use Rattle.std.proofs.lemmas.List.{length-map}
 use Rattle.std.specs.List.{AllWithin, HoldsAt}
 use Rattle.std.specs.Prelude.{None, Option, Some, MatchOption}
-use Rattle.fault.specs.Firsts.{Below}
 use Rattle.rows.proofs.Places.{mapped_at}
 use Rattle.rows.specs.Stored.{row_of, rows_of}
 use Rattle.rows.specs.declared.row.Row.{Row}
 use Rattle.rows.specs.declared.row.Row.TheVariants.{Variable}
 use Rattle.table.proofs.table.Table.find_variable.Goals as goal
-use Rattle.table.specs.Sheets.{sheet_of}
-use Rattle.unification.specs.Putting.{Unlabelled}
 use Rattle.unification.proofs.Reading.{at_within}
 use Rattle.unification.specs.Sheets as theory
 use Rattle.unification.specs.Sheets.{variable}
