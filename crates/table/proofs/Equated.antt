@@ -11,7 +11,7 @@ use Rattle.table.specs.Deepening.{Settled, Stuck}
 use Rattle.table.specs.Equating.{Between, Deep}
 use Rattle.table.specs.Joining.{Uniform}
 use Rattle.table.specs.Sheets.{sheet_of}
-use Rattle.rows.specs.Stored.{Equations, at, equation_of, equations_of, rows_of}
+use Rattle.rows.specs.Stored.{Equations, at, equation_of, rows_of}
 use Rattle.rows.specs.declared.equations.Equation.{Equation}
 use Rattle.table.specs.declared.table.Table.{Table}
 use Rattle.unification.proofs.Bridges.{equated_coherent}

@@ -1,5 +1,5 @@
 -- What a table keeps of a sheet, from its classes and depths.
-use Rattle.std.proofs.Common.{ℕ, ◌<◌, ◌≤◌, List, length}
+use Rattle.std.proofs.Common.{ℕ, ◌<◌, List, length}
 use Rattle.fault.specs.Firsts.{Below}
 use Rattle.table.proofs.Deeps.{settled_depth}
 use Rattle.table.proofs.Facts.{Facts}

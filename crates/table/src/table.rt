@@ -100,15 +100,21 @@ impl Table {
         Some((word, chief))
     }
 
+    /// The place of the label's row among the rows; nothing where it has none.
+    fn find_variable(&self, label: u16) -> Option<usize>
+        ensures { MatchOption result (Unlabelled (sheet_of self.now.rows self.now.equations) label) (λ p. (p < length (rows_of self.now.rows.items)) × At (sheet_of self.now.rows self.now.equations) p (variable label)) }
+    {
+        self.rows
+            .as_slice()
+            .iter()
+            .position(|row| row.is_variable(label))
+    }
+
     /// The row of the label; nothing where it has none.
     pub fn row_of(&self, label: u16) -> Option<u16>
         ensures { MatchOption result (Unlabelled (sheet_of self.now.rows self.now.equations) label) (λ p. At (sheet_of self.now.rows self.now.equations) p (variable label)) }
     {
-        let p = self
-            .rows
-            .as_slice()
-            .iter()
-            .position(|row| row.is_variable(label))?;
+        let p = self.find_variable(label)?;
         Some(p as u16)
     }
 

@@ -1,27 +1,34 @@
 // Cases of a table, each with the answer worked out by hand.
 #![tactic(auto)]
 
+ghost use Rattle.std.specs.Prelude.{◌≡◌};
+ghost use Rattle.table_cases.specs.declared.EquateFault.TheVariants.{Join};
 ghost use Rattle.table.specs.Uniformity.{IsUniform};
 
-use table::{BackFault, Equation, JoinFault, RowFault, Table};
+use table::{BackFault, Equation, JoinFault, RowFault, Table, Unequal};
 
 /// Why two rows were not equated.
 #[derive(Clone, Copy, PartialEq, Eq, Debug)]
 pub enum EquateFault {
-    Missing(u16),
-    Full,
-    Unequal(u16, u16),
+    /// The equation was refused.
+    Join(JoinFault),
+    /// With it there would be a cycle.
     Cycle,
 }
 
 impl From<JoinFault> for EquateFault {
+    ghost from_gives = { λ fault e. e ≡ Join fault };
+
     fn from(fault: JoinFault) -> EquateFault {
-        match fault {
-            JoinFault::Missing(i) => EquateFault::Missing(i),
-            JoinFault::Full => EquateFault::Full,
-            JoinFault::Unequal(u) => EquateFault::Unequal(u.left, u.right),
-        }
+        EquateFault::Join(fault)
     }
+}
+
+/// The refusal that names these two rows.
+fn unequal(left: u16, right: u16) -> EquateFault
+    ensures { result ≡ EquateFault.Join (JoinFault.Unequal (record { left = left; right = right })) }
+{
+    EquateFault::Join(JoinFault::Unequal(Unequal { left, right }))
 }
 
 /// Puts the equation down unless it is refused.
@@ -71,9 +78,15 @@ fn refusals(rt: HostRuntime) {
     assert_eq!(rt; t.compose(4, &[]), Ok(2));
     assert_eq!(rt; t.compose(1, &[2]), Ok(3));
     assert_eq!(rt; equate(&mut t, 0, 1), Err(EquateFault::Cycle));
-    assert_eq!(rt; equate(&mut t, 2, 3), Err(EquateFault::Unequal(3, 2)));
-    assert_eq!(rt; equate(&mut t, 4, 4), Err(EquateFault::Missing(0)));
-    assert_eq!(rt; equate(&mut t, 3, 4), Err(EquateFault::Missing(1)));
+    assert_eq!(rt; equate(&mut t, 2, 3), Err(unequal(3, 2)));
+    assert_eq!(rt;
+        equate(&mut t, 4, 4),
+        Err(EquateFault::Join(JoinFault::Missing(0)))
+    );
+    assert_eq!(rt;
+        equate(&mut t, 3, 4),
+        Err(EquateFault::Join(JoinFault::Missing(1)))
+    );
     assert_eq!(rt; t.equation_count(), 0);
     assert_eq!(rt; t.representative(0), Some(0));
     assert_eq!(rt; equate(&mut t, 1, 3), Ok(()));
@@ -113,7 +126,10 @@ fn edges(rt: HostRuntime) {
     for _ in 0..128u16 {
         assert_eq!(rt; equate(&mut t, 511, 510), Ok(()));
     }
-    assert_eq!(rt; equate(&mut t, 511, 510), Err(EquateFault::Full));
+    assert_eq!(rt;
+        equate(&mut t, 511, 510),
+        Err(EquateFault::Join(JoinFault::Full))
+    );
     assert_eq!(rt; t.representative(511), Some(510));
     assert_eq!(rt; t.equation_count(), 128);
 }
@@ -151,7 +167,7 @@ fn back_refused(rt: HostRuntime) {
     assert_eq!(rt; t.compose(4, &[]), Ok(1));
     assert_eq!(rt; t.compose(1, &[1]), Ok(2));
     assert_eq!(rt; equate(&mut t, 0, 1), Ok(()));
-    assert_eq!(rt; equate(&mut t, 0, 2), Err(EquateFault::Unequal(2, 1)));
+    assert_eq!(rt; equate(&mut t, 0, 2), Err(unequal(2, 1)));
     assert_eq!(rt; t.back(4, 2), Err(BackFault::Rows));
     assert_eq!(rt; t.back(3, 2), Err(BackFault::Equations));
     assert_eq!(rt; t.back(1, 2), Err(BackFault::Equations));

@@ -1,5 +1,4 @@
-use Rattle.std.proofs.Common.{◌≡◌, ℕ, ◌≤◌, List, ◌++◌, map, length, get_or, take, drop, ap, ◌∙◌, arith}
-use Rattle.std.proofs.lemmas.List.{take_all, drop_all, append-nil, length-map}
+use Rattle.std.proofs.Common.{ℕ, get_or, ◌∙◌, arith}
 use Rattle.rows.specs.Labels.{renamed}
 use Rattle.rows.proofs.Renaming.{map_step, renamed_same, renamed_other}
 use Rattle.rows.proofs.numbers.Numbers.rename.Goals as goal
@@ -13,17 +12,3 @@ loop-x-preserved c =
       | then-x-gone w ↦ w.x-items-is ∙ map_step f c.args.self.now.of c.loop-x.x-items c.loop-x.x-index _ (omega arith) (omega arith) c.loop-x.invariant (renamed_same c.args.gone c.args.keep x w.if-x-gone.true)
       | else-x-gone w ↦ w.x-items-is ∙ map_step f c.args.self.now.of c.loop-x.x-items c.loop-x.x-index _ (omega arith) (omega arith) c.loop-x.invariant (renamed_other c.args.gone c.args.keep x w.if-x-gone.false)
     ]
-
-whole : (f : ℕ → ℕ) (xs ys : List ℕ) (i : ℕ) → length xs ≤ i → ys ≡ map f (take i xs) ++ drop i xs → ys ≡ map f xs
-whole f xs ys i h e = e ∙ simp (take_all, drop_all, append-nil)
-
-pub returns : goal.returns
-returns c = whole (renamed c.args.gone c.args.keep) c.args.self.now.of c.loop-x.x-items c.loop-x.x-index (omega arith) c.loop-x.invariant
-
-pub invariant_of-self : goal.invariant_of-self
-invariant_of-self c =
-    record {
-      size =
-          ap length (whole (renamed c.args.gone c.args.keep) c.args.self.now.of c.loop-x.x-items c.loop-x.x-index (omega arith) c.loop-x.invariant)
-          ∙ length-map c.args.self.now.of (renamed c.args.gone c.args.keep) ∙ c.args.self.now.size;
-    }

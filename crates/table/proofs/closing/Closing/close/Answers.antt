@@ -1,4 +1,4 @@
-use Rattle.std.proofs.Common.{◌≡◌, ℕ, length, refl, sym, subst}
+use Rattle.std.proofs.Common.{ℕ, length, refl, sym, subst}
 use Rattle.rows.proofs.Places.{few}
 use Rattle.rows.specs.Stored.{at}
 use Rattle.table.proofs.Closings.{sheet_in, sheet_moved}

@@ -1,4 +1,4 @@
-use Rattle.std.proofs.Common.{◌≡◌, ℕ, ◌<◌, List, length, refl, sym, subst}
+use Rattle.std.proofs.Common.{ℕ, ◌<◌, List, length, refl, sym, subst}
 use denote.Bor.{Bor}
 use Rattle.rows.proofs.Places.{long}
 use Rattle.rows.specs.Stored.{rows_of}
@@ -8,7 +8,6 @@ use Rattle.table.proofs.Joins.{joined_more}
 use Rattle.table.proofs.closing.Closing.join.Goals as goal
 use Rattle.table.specs.Joining.{Sides, Sound, labels, merged}
 use Rattle.table.specs.Sheets.{sheet_of}
-use Rattle.unification.specs.Closures.{Closure}
 use Rattle.unification.specs.Sheets.{IsCoherent}
 
 pub invariant_of-self : goal.invariant_of-self

@@ -1,5 +1,4 @@
-use Rattle.std.proofs.Common.{◌≡◌, ◌<◌, ℕ, length, refl, arith, ap, true, false}
-use Rattle.fault.specs.Firsts.{Below}
+use Rattle.std.proofs.Common.{◌≡◌, ℕ, refl, arith, true, false}
 use Rattle.std.proofs.lemmas.List.{length-map}
 use Rattle.lists.specs.Entries.{entries}
 use Rattle.rows.specs.Stored.{equation_of}

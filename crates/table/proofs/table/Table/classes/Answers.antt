@@ -1,8 +1,5 @@
-use Rattle.std.proofs.Common.{refl}
 use Rattle.table.proofs.Hands.{coherent_at_hand, represents_at_hand}
 use Rattle.table.proofs.table.Table.classes.Goals as goal
 
-pub returns : goal.returns
-returns c =
-    let t = c.args.self.now in
-    record { value = refl; represents = represents_at_hand (coherent_at_hand t.coherent) t.represents }
+pub returns-clause-represents : goal.returns-clause-represents
+returns-clause-represents c = let t = c.args.self.now in represents_at_hand (coherent_at_hand t.coherent) t.represents

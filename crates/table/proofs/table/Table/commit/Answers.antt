@@ -1,6 +1,4 @@
-use Rattle.std.proofs.Common.{refl, arith}
-use Rattle.std.proofs.lemmas.List.{length-map, map_push}
-use Rattle.lists.specs.Entries.{entries}
+use Rattle.std.proofs.Common.{refl}
 use Rattle.table.proofs.Equated.{facts_after, put_down}
 use Rattle.table.proofs.Facts.{facts_moved}
 use Rattle.table.proofs.table.Table.commit.Goals as goal

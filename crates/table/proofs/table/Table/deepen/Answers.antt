@@ -1,6 +1,6 @@
 use Rattle.std.proofs.Common.{ℕ, List, length, sym, subst}
 use Rattle.rows.specs.declared.numbers.Numbers.{Numbers}
-use Rattle.std.specs.Prelude.{Ok, Err, Option, Result, MatchResult}
+use Rattle.std.specs.Prelude.{Ok, Err, Result, MatchResult}
 use Rattle.std.specs.Result.{result_ok}
 use Rattle.table.proofs.Equated.{after, cycle_after, deep_after, within_after}
 use Rattle.table.proofs.table.Table.deepen.Goals as goal

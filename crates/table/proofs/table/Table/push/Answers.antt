@@ -1,5 +1,4 @@
-use Rattle.std.proofs.Common.{◌≡◌, ℕ, ◌+◌, List, [], ◌∷◌, length, set, ap, ◌∙◌, arith, length-append}
-use Rattle.rows.proofs.Places.{few}
+use Rattle.std.proofs.Common.{ℕ, List, [], ◌∷◌, length, set, ap, ◌∙◌, arith, length-append}
 use Rattle.rows.specs.Stored.{row_of}
 use Rattle.table.proofs.Facts.{facts_grown, facts_moved}
 use Rattle.table.proofs.Growing.{uniform_grown}

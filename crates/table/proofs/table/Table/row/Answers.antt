@@ -1,4 +1,4 @@
-use Rattle.std.proofs.Common.{◌≡◌, ◌<◌, ◌≤◌, ℕ, List, map, length, ap, sym, subst, arith}
+use Rattle.std.proofs.Common.{◌≡◌, ◌<◌, ◌≤◌, ℕ, List, map, length, sym, subst, arith}
 use denote.Bor.{Bor}
 use lib.ListN.{get_elem?}
 use mathlib.Core.Option.{some}
@@ -7,7 +7,7 @@ use Rattle.std.specs.List.{HoldsAt}
 use Rattle.std.specs.Option.{option_copied}
 use Rattle.std.specs.Prelude.{Option, Some, None, MatchOption}
 use Rattle.rows.proofs.Places.{mapped_at}
-use Rattle.rows.specs.Stored.{row_of, rows_of}
+use Rattle.rows.specs.Stored.{row_of}
 use Rattle.rows.specs.declared.row.Row.{Row}
 use Rattle.table.proofs.table.Table.row.Goals as goal
 use Rattle.unification.specs.Sheets as theory
