@@ -44,6 +44,8 @@ impl OpenWord {
     }
 }
 
+// The clause `uniform` stands in each contract here as the table has it in its own.
+
 /// Gives the row to the innermost open word, composes each word that then has all its arguments, and gives its row to the next. Answers
 /// the row of the whole where no word is left open.
 fn give(opened: &mut OpenWords, table: &mut Table, row: u16) -> Result<Option<u16>, NoRoom>

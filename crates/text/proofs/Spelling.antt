@@ -1,15 +1,13 @@
 -- What a token's bytes are.
-use Rattle.std.proofs.Common.{◌≡◌, ℕ, zero, suc, ◌+◌, ◌-◌, ◌*◌, ◌/◌, ◌%◌, ◌<◌, ◌≤◌, Bool, true, false, cond, ltb, leb, ◌⊎◌, List, [], ◌∷◌, ◌++◌, length, get_or, take, drop, sym, refl, ap, ◌∙◌, subst, arith, length-drop, take-append-drop, le-ltb, lt-ltb, leb-true, Bor}
+use Rattle.std.proofs.Common.{◌≡◌, ℕ, zero, suc, ◌+◌, ◌-◌, ◌<◌, ◌≤◌, Bool, true, false, cond, ltb, List, [], ◌∷◌, ◌++◌, length, get_or, take, drop, sym, refl, ap, ◌∙◌, subst, arith, length-drop, take-append-drop, lt-ltb, Bor}
 use Rattle.std.proofs.Math.Seq.{take-length}
 use Rattle.std.specs.List.{take_while}
 use Rattle.std.proofs.lemmas.List.Sums.{take_while-cons}
 use Rattle.std.proofs.lemmas.List.{drop_more, drop_all, drop-drop, length-take-le}
 use Rattle.std.proofs.lemmas.Bool.{and_parts, and_from}
 use Rattle.std.proofs.lemmas.Bool.Decides.{nat_tests}
-use Rattle.text.specs.Phrases.{decimal}
 use Rattle.vocabulary.specs.Spellings.{fits, Signs, IsSpelling}
-use Rattle.text.specs.Tokens.{small, in_word, digit, wordy, word_rest, IsWord, Stop, begins, part, spell, Fair, Lexed}
-use Rattle.text.specs.declared.token.Token.{Token}
+use Rattle.text.specs.Tokens.{small, in_word, wordy, word_rest, IsWord, Stop, Lexed}
 use Rattle.text.specs.declared.token.Token.TheVariants.{Word}
 
 pub stop_at : (f : ℕ → Bool) (text : List ℕ) (i : ℕ) → f (get_or text i 0) ≡ false → Stop f (drop i text)

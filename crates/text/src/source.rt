@@ -1,7 +1,7 @@
 ghost use Rattle.std.specs.Prelude.{◌≡◌, ◌≤◌, length};
 ghost use Rattle.text.specs.Limits.{longest_text};
 
-/// A text of at most 4,096 bytes.
+/// A text of at most 4,096 bytes. A place in it is a number up to that of its bytes: each call asks so much, as an index does.
 #[derive(Clone, Copy)]
 pub struct Source<'a> {
     pub(crate) bytes: &'a [u8],

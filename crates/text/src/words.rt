@@ -39,6 +39,7 @@ impl Source<'_> {
             (λ _. AllByRecursion (Sure (L.Lexicon.spellings signature.now.lexicon.now) signature.now.arities.now) (words 0 p))
             (WordsRefused (L.Lexicon.spellings signature.now.lexicon.now) signature.now.arities.now (words 0 p)) }
     {
+        // a word that does not fit is told only once all are known
         let mut fit = Ok(());
         let mut at = 0;
         while let Ok((token, end)) = self.lex(at) {

@@ -8,15 +8,12 @@ use Rattle.reading.proofs.read.read_rows.Goals as goal
 pub loop-next-init : goal.loop-next-init
 loop-next-init g c = record { within = omega arith; progress = λ a. progress_none _ _ _ _ a _ (ap reverse c.new-opened.ensures); uniform = λ u. u }
 
-pub take-requires : goal.take-requires
-take-requires g c =
+pub take-requires-clause-due : goal.take-requires-clause-due
+take-requires-clause-due g c =
     let a = c.requires.accepted in
     let p = c.loop-next.invariant.progress a in
     let n = c.in-Some.ensures.finds p.standings p.left in
-    record {
-      few = c.requires.few;
-      due = record { start = sheet_of c.args.table.now.rows c.args.table.now.equations; whole = a.term; others = _; due = progress_due _ _ _ _ _ _ _ _ c.in-Some.next p n };
-    }
+    record { start = sheet_of c.args.table.now.rows c.args.table.now.equations; whole = a.term; others = _; due = progress_due _ _ _ _ _ _ _ _ c.in-Some.next p n }
 
 pub returns-in_err-row-clause-rows : goal.returns-in_err-row-clause-rows
 returns-in_err-row-clause-rows g c a =

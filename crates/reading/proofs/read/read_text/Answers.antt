@@ -6,16 +6,13 @@ use Rattle.reading.specs.declared.causes.ReadFault.TheVariants.{Text, Full}
 use Rattle.reading.proofs.Settled.{table_coherent, table_short, kept_same, read_settled, refused_as}
 use Rattle.reading.proofs.read.read_text.Goals as goal
 
-pub returns-in_err-check_text : goal.returns-in_err-check_text
-returns-in_err-check_text g c =
+pub returns-in_err-check_text-clause-only : goal.returns-in_err-check_text-clause-only
+returns-in_err-check_text-clause-only g c q v k =
     let t = c.args.table.now in
     let s = sheet_of t.rows t.equations in
     let p = err_from_is_err_and c.from_residual.result c.from_residual.ensures.1 in
     let h = refused_as (g.L.Lexicon.spellings c.args.lexicon.now) c.args.arities.now c.args.text.now s s _ p.0 (Text c.in_err-check_text.field-0.0) p.1 p.2 (c.in_err-check_text.ensures.verdict, refl) in
-    record { answer = h; kept = kept_same c.from_residual.result t; only = λ q v k. read_settled _ _ _ s (table_coherent t) _ q s v h k; uniform = λ u. u }
-
-pub read_rows-requires : goal.read_rows-requires
-read_rows-requires g c = record { few = c.requires; accepted = rw c.new.ensures c.in_ok-check_text.ensures.verdict }
+    read_settled _ _ _ s (table_coherent t) _ q s v h k
 
 pub returns-in_err-row : goal.returns-in_err-row
 returns-in_err-row g c =

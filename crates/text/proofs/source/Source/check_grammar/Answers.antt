@@ -1,7 +1,7 @@
 use Rattle.std.proofs.Common.{sym, subst}
 use Rattle.std.proofs.lemmas.Result.{err_from_is_err_and}
 use Rattle.text.specs.Texts.{StopsAt}
-use Rattle.text.proofs.Grammatical.{check_stops, check_whole, check_trails}
+use Rattle.text.proofs.Grammatical.{check_stops, check_trails}
 use Rattle.text.proofs.source.Source.check_grammar.Goals as goal
 
 pub returns-in_err-end : goal.returns-in_err-end
@@ -13,6 +13,3 @@ pub returns-then-end-self : goal.returns-then-end-self
 returns-then-end-self c =
     let text = c.args.self.now.bytes.now in
     subst (StopsAt text) (sym c.stray.ensures) (check_trails text _ c.in_ok-end.ensures c.if-end-self.true)
-
-pub returns-else-end-self : goal.returns-else-end-self
-returns-else-end-self c = check_whole c.args.self.now.bytes.now _ c.in_ok-end.ensures c.if-end-self.false
