@@ -1,11 +1,9 @@
-// Lists of 1 to 128 entries, one for each word, in fixed memory. It knows nothing of what the entries mean.
+// One list of values in fixed memory, and how many words there may be. It knows nothing of what the values mean.
 #![tactic(auto)]
 
 mod count;
-mod fixed;
 mod list;
 mod methods;
 
 pub use count::fits;
-pub use fixed::kept;
 pub use list::List;

@@ -5,11 +5,7 @@ ghost use Rattle.vocabulary.specs.Spellings.{SameSpelling, Signs, fits};
 fn may_stand(k: usize, byte: u8) -> bool
     ensures { result ≡ fits k byte }
 {
-    match byte {
-        b'a'..=b'z' => true,
-        b'0'..=b'9' | b'-' => k > 0,
-        _ => false,
-    }
+    byte.is_ascii_lowercase() || k > 0 && (byte.is_ascii_digit() || byte == b'-')
 }
 
 /// Whether each byte may stand at its place of a spelling, however many there are.

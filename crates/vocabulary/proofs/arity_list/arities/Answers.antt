@@ -1,5 +1,5 @@
-use Rattle.std.proofs.Common.{◌<◌, length, refl, ◌∙◌, arith, length-set}
-use Rattle.vocabulary.proofs.Filling.{filled_more, filled_none, known_value}
+use Rattle.std.proofs.Common.{refl}
+use Rattle.vocabulary.proofs.Filling.{filled_none}
 use Rattle.vocabulary.proofs.arity_list.arities.Goals as goal
 
 pub loop-f-init : goal.loop-f-init
