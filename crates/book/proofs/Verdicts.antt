@@ -1,8 +1,8 @@
 -- For each list of bytes at most one verdict fits.
 use Rattle.std.proofs.Common.{◌≡◌, ℕ, List, Ok, Err, Result, refl, ap, inl, inr, arith}
 use Rattle.book.specs.Verdicts.{IsLinesBook, IsMarksBook, Verdict}
-use Rattle.book.specs.declared.checks.Kind.{Kind}
-use Rattle.book.specs.declared.checks.Kind.TheVariants.{Marks, Lines}
+use Rattle.layout.specs.declared.kind.Kind.{Kind}
+use Rattle.layout.specs.declared.kind.Kind.TheVariants.{Marks, Lines}
 use Rattle.book.specs.declared.causes.BookFault.{BookFault}
 use Rattle.book.specs.declared.causes.BookFault.TheVariants.{Form, Law}
 use Rattle.book.specs.declared.causes.LawFault.{LawFault}

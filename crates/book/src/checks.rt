@@ -1,18 +1,12 @@
 ghost use Rattle.book.specs.Verdicts.{Verdict};
-ghost use Rattle.book.specs.declared.checks.Kind.{Kind};
 ghost use Rattle.book.specs.declared.causes.BookFault.{BookFault};
+ghost use Rattle.layout.specs.declared.kind.Kind.{Kind};
 ghost use Rattle.std.specs.Prelude.{◌≡◌, Result};
 
 use crate::causes::BookFault;
 use crate::laws::check_laws;
-use layout::{Layout, check_form};
-
-/// What the likenesses of a book are.
-#[derive(Clone, Copy, PartialEq, Eq, Debug)]
-pub enum Kind {
-    Marks,
-    Lines,
-}
+use layout::{Kind, Layout, check_form};
+use scale::{Lines, Mark};
 
 /// Says of which kind the book in the bytes is, or what is wrong with it first.
 fn verdict(bytes: &[u8]) -> Result<Kind, BookFault>
@@ -20,13 +14,12 @@ fn verdict(bytes: &[u8]) -> Result<Kind, BookFault>
 {
     check_form(bytes)?;
     let layout = Layout::new(bytes);
-    if bytes[3] == 1 {
-        check_laws::<scale::Mark>(&layout)?;
-        Ok(Kind::Marks)
-    } else {
-        check_laws::<scale::Lines>(&layout)?;
-        Ok(Kind::Lines)
+    let kind = layout.kind();
+    match kind {
+        Kind::Marks => check_laws::<Mark>(&layout)?,
+        Kind::Lines => check_laws::<Lines>(&layout)?,
     }
+    Ok(kind)
 }
 
 /// Says of which kind the book in the bytes is, or what is wrong with it first: no other verdict fits.

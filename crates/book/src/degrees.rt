@@ -8,18 +8,12 @@ use scale::Scale;
 pub fn degree_at<S: Scale>(layout: &Layout, i: u16, j: u16) -> Option<S>
     ensures { result ≡ degree_at S.Scale.operations layout.now.bytes.now i j }
 {
-    match layout.code(i, j) {
-        Some(code) => S::from_code(code),
-        None => None,
-    }
+    S::from_code(layout.code(i, j)?)
 }
 
 /// At what degree the two words are alike; bottom where the table has no degree for them.
 pub fn likeness<S: Scale>(layout: &Layout, i: u16, j: u16) -> S
     ensures { result ≡ likeness_of S.Scale.operations layout.now.bytes.now i j }
 {
-    match degree_at::<S>(layout, i, j) {
-        Some(degree) => degree,
-        None => S::bottom(),
-    }
+    degree_at(layout, i, j).unwrap_or(S::bottom())
 }

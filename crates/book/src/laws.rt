@@ -1,3 +1,4 @@
+// The loops over the words are the project's form: ranges of numbers, and the arities with their index.
 ghost use Rattle.book.specs.Laws.{Coded, Lawful, Reflexive, Symmetric, Transitive, Typed, Unlawful};
 ghost use Rattle.fault.specs.Firsts.{All2, All3, Below, First1, First2, First3};
 ghost use Rattle.layout.specs.Places.{count_of};
@@ -33,7 +34,7 @@ fn unlike_itself<S: Scale>(layout: &Layout) -> Option<u8>
         (First1 (count_of layout.now.bytes.now) (Reflexive S.Scale.operations layout.now.bytes.now)) }
 {
     for i in 0..layout.count() {
-        if !likeness::<S>(layout, i as u16, i as u16).same(S::top()) {
+        if likeness::<S>(layout, i as u16, i as u16) != S::top() {
             return Some(i);
         }
     }
@@ -64,10 +65,10 @@ fn arity_clash<S: Scale>(layout: &Layout) -> Option<(u8, u8)>
         (λ p. First2 (count_of layout.now.bytes.now) (Typed S.Scale.operations layout.now.bytes.now) p.0 p.1) }
 {
     let arities = layout.arities();
-    let words = &arities[0..layout.count() as usize];
+    let words = &arities[..layout.count() as usize];
     for (i, one) in words.iter().enumerate() {
         for (j, other) in words.iter().enumerate() {
-            if *one != *other && !likeness::<S>(layout, i as u16, j as u16).same(S::bottom()) {
+            if *one != *other && likeness::<S>(layout, i as u16, j as u16) != S::bottom() {
                 return Some((i as u8, j as u8));
             }
         }
@@ -82,7 +83,7 @@ fn less_than_through<S: Scale>(layout: &Layout, i: u8, j: u8) -> Option<u8>
         (First1 (count_of layout.now.bytes.now) (Transitive S.Scale.operations layout.now.bytes.now i j)) }
 {
     let first = likeness::<S>(layout, i as u16, j as u16);
-    if first.same(S::bottom()) {
+    if first == S::bottom() {
         return None;
     }
     for k in 0..layout.count() {

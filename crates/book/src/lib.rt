@@ -1,15 +1,14 @@
 // Books of likenesses: their laws, their check, and the books that passed it. It knows nothing of terms.
 #![tactic(auto)]
 
+mod book;
 mod causes;
 mod checks;
 mod degrees;
 mod laws;
-mod lines_book;
-mod marks_book;
 
+pub use book::{Book, LinesBook, MarksBook};
 pub use causes::{BookFault, LawFault};
-pub use checks::{Kind, check};
+pub use checks::check;
 pub use degrees::likeness;
-pub use lines_book::LinesBook;
-pub use marks_book::MarksBook;
+pub use layout::Kind;

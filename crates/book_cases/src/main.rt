@@ -4,8 +4,8 @@
 // of a text; `*K` behind an item repeats it K times. The answer is the name and the verdict.
 #![tactic(auto)]
 
-use anyhow::anyhow;
-use book::{Kind, check};
+use anyhow::Context;
+use book::check;
 use fault::Cause;
 
 #[cfg(test)]
@@ -16,44 +16,33 @@ fn put(bytes: &mut Vec<u8>, item: &str) -> anyhow::Result<()> {
     if let Some(number) = item.strip_prefix("b") {
         bytes.push(number.parse::<u8>()?)?;
     } else if let Some(number) = item.strip_prefix("w") {
-        for byte in number.parse::<u16>()?.to_be_bytes() {
-            bytes.push(byte)?;
-        }
+        bytes.extend_from_slice(&number.parse::<u16>()?.to_be_bytes())?;
     } else {
-        for byte in item.bytes() {
-            if byte != b'"' {
-                bytes.push(byte)?;
-            }
-        }
+        bytes.extend_from_slice(item.trim_matches('"').as_bytes())?;
     }
     Ok(())
 }
 
 /// The bytes of an item with its count.
 fn put_all(bytes: &mut Vec<u8>, item: &str) -> anyhow::Result<()> {
-    match item.split_once("*") {
-        Some((once, count)) => {
-            for _ in 0..count.parse::<u16>()? {
-                put(bytes, once)?;
-            }
-            Ok(())
-        }
-        None => put(bytes, item),
+    let Some((once, count)) = item.split_once("*") else {
+        return put(bytes, item);
+    };
+    for _ in 0..count.parse::<u16>()? {
+        put(bytes, once)?;
     }
+    Ok(())
 }
 
 /// Prints the verdict on the book that the line has.
 fn judge(rt: &HostRuntime, line: &str) -> anyhow::Result<()> {
-    let Some((name, items)) = line.split_once(" ") else {
-        return Err(anyhow!("a line without a blank"));
-    };
+    let (name, items) = line.split_once(" ").context("a line without a blank")?;
     let mut bytes = Vec::new(rt.alloc());
     for item in items.split(' ') {
         put_all(&mut bytes, item)?;
     }
     match check(bytes.as_slice()) {
-        Ok(Kind::Marks) => println!(rt; "{name} marks")?,
-        Ok(Kind::Lines) => println!(rt; "{name} lines")?,
+        Ok(kind) => println!(rt; "{name} {kind}")?,
         Err(cause) => println!(rt; "{name} {}", cause.fault())?,
     }
     Ok(())

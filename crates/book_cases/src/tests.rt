@@ -1,6 +1,6 @@
 // What a made book answers, and what is told of books: values worked out by hand.
 use book::{BookFault, Kind, LawFault, LinesBook, MarksBook, check as check_book};
-use report::{report_above, report_on, report_text};
+use report::{Untold, report_above, report_on, report_text};
 use scale::Coded;
 use std::test::Fail;
 use vocabulary::{Lexicon, Vocabulary};
@@ -77,16 +77,24 @@ fn likenesses_from_no_tree(rt: HostRuntime) -> Result<(), Fail> {
     Ok(())
 }
 
+/// The text of a refusal, which has to be one.
+fn refusal(told: Result<String, Untold>) -> Result<String, Fail> {
+    match told {
+        Err(Untold::Refused(text)) => Ok(text),
+        Err(Untold::NoMemory(error)) => Err(error.into()),
+        Ok(_) => Err(Fail::new("accepted")),
+    }
+}
+
 #[test]
 fn less_than_through_a_third(rt: HostRuntime) -> Result<(), Fail> {
     assert_eq!(rt;
         check_book(&HALTED),
         Err(BookFault::Law(LawFault::Transitivity(0, 1, 2)))
     );
-    let report = report_on(rt.alloc(), &HALTED)?;
-    assert!(rt; !report.accepted);
+    let text = refusal(report_on(rt.alloc(), &HALTED))?;
     assert_eq!(rt;
-        report.text.as_str(),
+        text.as_str(),
         "fault 1 8 130\nsuspended and finished are alike at 300, less than through halted: 800.\n"
     );
     Ok(())
@@ -94,16 +102,14 @@ fn less_than_through_a_third(rt: HostRuntime) -> Result<(), Fail> {
 
 #[test]
 fn told_above_a_floor(rt: HostRuntime) -> Result<(), Fail> {
-    let none = report_above(rt.alloc(), &EIGHT, 1001)?;
-    assert!(rt; !none.accepted);
+    let none = refusal(report_above(rt.alloc(), &EIGHT, 1001))?;
     assert_eq!(rt;
-        none.text.as_str(),
+        none.as_str(),
         "fault 1 4 0\nThe floor 1001 is no mark: marks go from 0 to 1000.\n"
     );
     let top = report_above(rt.alloc(), &LINES, 2)?;
-    assert!(rt; top.accepted);
     assert_eq!(rt;
-        top.text.as_str(),
+        top.as_str(),
         "Words alike at lines 1 or more:\na, arguments: 0\n  alike to c at lines 1\nb, arguments: 0\nc, arguments: 0\n  alike to a at lines 1\n"
     );
     Ok(())
@@ -111,12 +117,10 @@ fn told_above_a_floor(rt: HostRuntime) -> Result<(), Fail> {
 
 #[test]
 fn told_of_a_text(rt: HostRuntime) -> Result<(), Fail> {
-    let good = report_text(rt.alloc(), &EIGHT, "status(?1,paused(?2))")?;
-    assert!(rt; good.accepted);
-    let bad = report_text(rt.alloc(), &EIGHT, "paused(?100)")?;
-    assert!(rt; !bad.accepted);
+    assert!(rt; report_text(rt.alloc(), &EIGHT, "status(?1,paused(?2))").is_ok());
+    let bad = refusal(report_text(rt.alloc(), &EIGHT, "paused(?100)"))?;
     assert_eq!(rt;
-        bad.text.as_str(),
+        bad.as_str(),
         "fault 2 13 10\npaused(?100)\n          ^\nno text can go on so\n"
     );
     Ok(())

@@ -1,9 +1,9 @@
 // Reads a book, checks it, and prints what is to be told of it. All that it says is worked out in `report`.
 #![tactic(auto)]
 
-use anyhow::anyhow;
-use report::{Report, report_above, report_on, report_text};
-use std::alloc::{AllocError, Global};
+use anyhow::{Context, anyhow};
+use report::{Untold, report_above, report_on, report_text};
+use std::alloc::Global;
 use std::process::ExitCode;
 use std::{env, fs};
 
@@ -26,69 +26,45 @@ sentence that says what is wrong first, for a text with a caret under the place.
 The exit status is then 1.
 ";
 
-/// An option whose value is the next argument.
-#[derive(Clone, Copy)]
-enum Pending {
-    Nothing,
-    Floor,
-    Text,
-}
-
 /// What the arguments ask for.
 #[derive(Drop)]
 struct Request {
     path: String,
     floor: Option<u16>,
     text: Option<String>,
-    help: bool,
 }
 
-/// What the arguments ask for; an error that says which argument is not understood.
-fn asked(rt: &HostRuntime) -> anyhow::Result<Request> {
+/// What the arguments ask for, or nothing where help is asked for; an error that says which argument is not understood.
+fn asked(rt: &HostRuntime) -> anyhow::Result<Option<Request>> {
     let mut path = String::from_str(rt.alloc(), "book.bin")?;
     let mut floor = None;
     let mut text = None;
     let mut help = false;
-    let mut pending = Pending::Nothing;
-    for argument in env::args(rt)?.skip(1) {
-        match pending {
-            Pending::Floor => {
-                let Ok(code) = argument.as_str().parse::<u16>() else {
-                    return Err(anyhow!("a floor is a number from 0 to 65535"));
-                };
-                floor = Some(code);
-                pending = Pending::Nothing;
+    let mut arguments = env::args(rt)?.skip(1);
+    while let Some(argument) = arguments.next() {
+        match argument.as_str() {
+            "--help" => help = true,
+            "--floor" => {
+                let code = arguments.next().context("an option lacks its value")?;
+                floor = Some(code.as_str().parse::<u16>().context("a floor is a number from 0 to 65535")?);
             }
-            Pending::Text => {
-                text = Some(argument);
-                pending = Pending::Nothing;
-            }
-            Pending::Nothing => match argument.as_str() {
-                "--help" => help = true,
-                "--floor" => pending = Pending::Floor,
-                "--text" => pending = Pending::Text,
-                other => {
-                    if other.starts_with("-") {
-                        return Err(anyhow!("there is an option that is not known"));
-                    }
-                    path = String::from_str(rt.alloc(), other)?;
+            "--text" => text = Some(arguments.next().context("an option lacks its value")?),
+            other => {
+                if other.starts_with("-") {
+                    return Err(anyhow!("there is an option that is not known"));
                 }
-            },
+                path = String::from_str(rt.alloc(), other)?;
+            }
         }
     }
-    if let Pending::Floor | Pending::Text = pending {
-        return Err(anyhow!("an option lacks its value"));
+    if help {
+        return Ok(None);
     }
-    Ok(Request {
-        path,
-        floor,
-        text,
-        help,
-    })
+    Ok(Some(Request { path, floor, text }))
 }
 
 /// What is to be told of the book in the bytes.
-fn told(heap: Global, bytes: &[u8], request: &Request) -> Result<Report, AllocError> {
+fn told(heap: Global, bytes: &[u8], request: &Request) -> Result<String, Untold> {
     if let Some(text) = &request.text {
         return report_text(heap, bytes, text.as_str());
     }
@@ -100,16 +76,16 @@ fn told(heap: Global, bytes: &[u8], request: &Request) -> Result<Report, AllocEr
 
 fn main(rt: HostRuntime) -> anyhow::Result<ExitCode> {
     let request = match asked(&rt) {
-        Ok(request) => request,
+        Ok(Some(request)) => request,
+        Ok(None) => {
+            print!(rt; "{HELP}")?;
+            return Ok(ExitCode::SUCCESS);
+        }
         Err(error) => {
             eprintln!(rt; "bookcheck: {error}; see bookcheck --help")?;
             return Ok(ExitCode::FAILURE);
         }
     };
-    if request.help {
-        print!(rt; "{HELP}")?;
-        return Ok(ExitCode::SUCCESS);
-    }
     let bytes = match fs::read(&rt, request.path.as_str()) {
         Ok(bytes) => bytes,
         Err(error) => {
@@ -117,11 +93,15 @@ fn main(rt: HostRuntime) -> anyhow::Result<ExitCode> {
             return Ok(ExitCode::FAILURE);
         }
     };
-    let report = told(rt.alloc(), bytes.as_slice(), &request)?;
-    print!(rt; "{}", report.text)?;
-    if report.accepted {
-        Ok(ExitCode::SUCCESS)
-    } else {
-        Ok(ExitCode::FAILURE)
+    match told(rt.alloc(), bytes.as_slice(), &request) {
+        Ok(text) => {
+            print!(rt; "{text}")?;
+            Ok(ExitCode::SUCCESS)
+        }
+        Err(Untold::Refused(text)) => {
+            print!(rt; "{text}")?;
+            Ok(ExitCode::FAILURE)
+        }
+        Err(Untold::NoMemory(error)) => Err(error.into()),
     }
 }

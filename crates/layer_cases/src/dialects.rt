@@ -1,10 +1,9 @@
+use crate::refusals::place;
 use crate::trees::marks;
 use book::{Kind, MarksBook, check as check_book};
-use fault::{Cause, Fault, Layer};
 use layers::{Dialect, DialectFault, check_dialect};
 use scale::{Coded, offered};
-use stack::{line_stack, marks_likeness};
-use std::process::Abort;
+use stack::{book_likeness, tree_stack};
 use std::test::Fail;
 use vocabulary::Vocabulary;
 
@@ -33,31 +32,15 @@ fn two_words_for_one(rt: HostRuntime) -> Result<(), Fail> {
     Ok(())
 }
 
-/// The place of the refusal, which has to be layer 1, number 10; nothing where there is none.
-fn place(rt: &impl Abort, verdict: Result<(), DialectFault>) -> Result<Option<u32>, Fail> {
-    match verdict {
-        Ok(()) => Ok(None),
-        Err(fault) => {
-            let Fault {
-                layer,
-                number,
-                place,
-            } = fault.fault();
-            assert!(rt; layer == Layer::Vocabulary && number == 10);
-            Ok(Some(place))
-        }
-    }
-}
-
 #[test]
 fn refusals_of_entries(rt: HostRuntime) -> Result<(), Fail> {
     let tree = marks()?;
-    assert_eq!(rt; place(&rt, check_dialect(&tree, &[]))?, Some(0));
-    assert_eq!(rt; place(&rt, check_dialect(&tree, &[5; 129]))?, Some(0));
-    assert_eq!(rt; place(&rt, check_dialect(&tree, &[5; 128]))?, None);
-    assert_eq!(rt; place(&rt, check_dialect(&tree, &[6, 0]))?, Some(0));
+    assert_eq!(rt; place(&rt, 10, check_dialect(&tree, &[])), Some(0));
+    assert_eq!(rt; place(&rt, 10, check_dialect(&tree, &[5; 129])), Some(0));
+    assert_eq!(rt; place(&rt, 10, check_dialect(&tree, &[5; 128])), None);
+    assert_eq!(rt; place(&rt, 10, check_dialect(&tree, &[6, 0])), Some(0));
     assert_eq!(rt;
-        place(&rt, check_dialect(&tree, &[0, 5, 6, 700]))?,
+        place(&rt, 10, check_dialect(&tree, &[0, 5, 6, 700])),
         Some(32768)
     );
     Ok(())
@@ -66,7 +49,7 @@ fn refusals_of_entries(rt: HostRuntime) -> Result<(), Fail> {
 #[test]
 fn the_layers_together(rt: HostRuntime) -> Result<(), Fail> {
     // word 1 under 0 on lines 0, 1, 2; word 2 under 1 on 1, 2; word 3 under 0 on 1, 3; a floor of line 2
-    let dialect = line_stack(
+    let dialect = tree_stack(
         &[0, 0, 0, 0],
         &[0, 0, 1, 0],
         &[65535, 7, 6, 10],
@@ -93,16 +76,10 @@ fn the_layers_together(rt: HostRuntime) -> Result<(), Fail> {
 #[test]
 fn refusals_of_the_layers(rt: HostRuntime) -> Result<(), Fail> {
     let floor = offered::<scale::Lines>(0)?;
-    let Err(fault) = line_stack(&[0, 1], &[0, 0], &[0, 0], floor, &[9]) else {
-        return Err(Fail::new("no tree"));
-    };
-    assert_eq!(rt; fault.fault().place, 16384);
-    assert_eq!(rt; fault.fault().number, 9);
-    let Err(fault) = line_stack(&[0, 1], &[0, 1], &[0, 0], floor, &[1, 2]) else {
-        return Err(Fail::new("no dialect"));
-    };
-    assert_eq!(rt; fault.fault().place, 16384);
-    assert_eq!(rt; fault.fault().number, 10);
+    let no_tree = tree_stack(&[0, 1], &[0, 0], &[0, 0], floor, &[9]);
+    assert_eq!(rt; place(&rt, 9, no_tree), Some(16384));
+    let no_dialect = tree_stack(&[0, 1], &[0, 1], &[0, 0], floor, &[1, 2]);
+    assert_eq!(rt; place(&rt, 10, no_dialect), Some(16384));
     Ok(())
 }
 
@@ -113,33 +90,25 @@ const BOOK: [u8; 19] = [
 
 #[test]
 fn over_a_book(rt: HostRuntime) -> Result<(), Fail> {
-    match check_book(&BOOK)? {
-        Kind::Lines => Err(Fail::new("a book of lines")),
-        Kind::Marks => {
-            let book = MarksBook::new(&BOOK);
-            // b, a and b again; 800 stays at a floor of 800 and falls at 801
-            let cases = [
-                (800, 0, 1, 800),
-                (801, 0, 1, 0),
-                (801, 0, 2, 1000),
-                (0, 1, 2, 800),
-                (0, 3, 0, 0),
-            ];
-            for (floor, f, g, mark) in cases {
-                let likeness = marks_likeness(
-                    book,
-                    offered::<scale::Mark>(floor)?,
-                    &[1, 0, 1],
-                    f,
-                    g,
-                )?;
-                assert_eq!(rt; likeness.code(), mark);
-            }
-            assert!(rt;
-                marks_likeness(book, offered::<scale::Mark>(0)?, &[0, 2], 0, 0)
-                    == Err(DialectFault::Entry(1))
-            );
-            Ok(())
-        }
+    let Ok(Kind::Marks) = check_book(&BOOK) else {
+        return Err(Fail::new("no book of marks"));
+    };
+    let book = MarksBook::new(&BOOK);
+    // b, a and b again; 800 stays at a floor of 800 and falls at 801
+    let cases = [
+        (800, 0, 1, 800),
+        (801, 0, 1, 0),
+        (801, 0, 2, 1000),
+        (0, 1, 2, 800),
+        (0, 3, 0, 0),
+    ];
+    for (floor, f, g, mark) in cases {
+        let likeness = book_likeness(book, offered::<scale::Mark>(floor)?, &[1, 0, 1], f, g)?;
+        assert_eq!(rt; likeness.code(), mark);
     }
+    assert_eq!(rt;
+        book_likeness(book, offered::<scale::Mark>(0)?, &[0, 2], 0, 0),
+        Err(DialectFault::Entry(1))
+    );
+    Ok(())
 }

@@ -6,4 +6,6 @@ mod dialects;
 #[cfg(test)]
 mod floors;
 #[cfg(test)]
+mod refusals;
+#[cfg(test)]
 mod trees;

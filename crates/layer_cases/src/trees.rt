@@ -1,6 +1,5 @@
-use fault::{Cause, Fault, Layer};
+use crate::refusals::place;
 use scale::{Coded, Lines, Mark};
-use std::process::Abort;
 use std::test::Fail;
 use tree::{Tree, TreeFault, check_tree};
 use vocabulary::Vocabulary;
@@ -80,39 +79,23 @@ fn counts_and_arities(rt: HostRuntime) -> Result<(), Fail> {
     Ok(())
 }
 
-/// The place of the refusal, which has to be layer 1, number 9; nothing where there is none.
-fn place(rt: &impl Abort, verdict: Result<(), TreeFault>) -> Result<Option<u32>, Fail> {
-    match verdict {
-        Ok(()) => Ok(None),
-        Err(fault) => {
-            let Fault {
-                layer,
-                number,
-                place,
-            } = fault.fault();
-            assert!(rt; layer == Layer::Vocabulary && number == 9);
-            Ok(Some(place))
-        }
-    }
-}
-
 #[test]
 fn refusals_of_lists(rt: HostRuntime) -> Result<(), Fail> {
     assert_eq!(rt;
-        place(&rt, check_tree::<Mark>(&[0, 0], &[0], &[0, 0]))?,
+        place(&rt, 9, check_tree::<Mark>(&[0, 0], &[0], &[0, 0])),
         Some(0)
     );
     assert_eq!(rt;
-        place(&rt, check_tree::<Mark>(&[0], &[0], &[0, 0]))?,
+        place(&rt, 9, check_tree::<Mark>(&[0], &[0], &[0, 0])),
         Some(0)
     );
-    assert_eq!(rt; place(&rt, check_tree::<Mark>(&[], &[], &[]))?, Some(0));
+    assert_eq!(rt; place(&rt, 9, check_tree::<Mark>(&[], &[], &[])), Some(0));
     assert_eq!(rt;
-        place(&rt, check_tree::<Mark>(&[0; 129], &[0; 129], &[0; 129]))?,
+        place(&rt, 9, check_tree::<Mark>(&[0; 129], &[0; 129], &[0; 129])),
         Some(0)
     );
     assert_eq!(rt;
-        place(&rt, check_tree::<Mark>(&[0; 128], &[0; 128], &[0; 128]))?,
+        place(&rt, 9, check_tree::<Mark>(&[0; 128], &[0; 128], &[0; 128])),
         None
     );
     Ok(())
@@ -122,51 +105,58 @@ fn refusals_of_lists(rt: HostRuntime) -> Result<(), Fail> {
 fn refusals_of_words(rt: HostRuntime) -> Result<(), Fail> {
     // an arity above 6
     assert_eq!(rt;
-        place(&rt, check_tree::<Mark>(&[6, 7], &[0, 1], &[0, 0]))?,
+        place(&rt, 9, check_tree::<Mark>(&[6, 7], &[0, 1], &[0, 0])),
         Some(16384)
     );
     assert_eq!(rt;
-        place(&rt, check_tree::<Mark>(&[6, 6], &[0, 1], &[0, 0]))?,
+        place(&rt, 9, check_tree::<Mark>(&[6, 6], &[0, 1], &[0, 0])),
         None
     );
     // a higher parent, one of another arity, one that is no word
     assert_eq!(rt;
-        place(&rt, check_tree::<Mark>(&[0, 0], &[1, 1], &[0, 0]))?,
+        place(&rt, 9, check_tree::<Mark>(&[0, 0], &[1, 1], &[0, 0])),
         Some(0)
     );
     assert_eq!(rt;
-        place(&rt, check_tree::<Mark>(&[0, 0, 1], &[0, 0, 1], &[0, 0, 0]))?,
+        place(
+            &rt,
+            9,
+            check_tree::<Mark>(&[0, 0, 1], &[0, 0, 1], &[0, 0, 0])
+        ),
         Some(32768)
     );
     assert_eq!(rt;
         place(
             &rt,
+            9,
             check_tree::<Mark>(&[0, 0, 0], &[0, 1, 200], &[0, 0, 0])
-        )?,
+        ),
         Some(32768)
     );
     // no code of a mark, at a root too; every number is the code of a set of lines
     assert_eq!(rt;
-        place(&rt, check_tree::<Mark>(&[0, 0], &[0, 0], &[0, 1001]))?,
+        place(&rt, 9, check_tree::<Mark>(&[0, 0], &[0, 0], &[0, 1001])),
         Some(16384)
     );
     assert_eq!(rt;
         place(
             &rt,
+            9,
             check_tree::<Mark>(&[0, 0, 0], &[0, 1, 2], &[0, 0, 1001])
-        )?,
+        ),
         Some(32768)
     );
     assert_eq!(rt;
-        place(&rt, check_tree::<Lines>(&[0, 0], &[0, 0], &[0, 1001]))?,
+        place(&rt, 9, check_tree::<Lines>(&[0, 0], &[0, 0], &[0, 1001])),
         None
     );
     // the lowest word, whatever is wrong with it
     assert_eq!(rt;
         place(
             &rt,
+            9,
             check_tree::<Mark>(&[0, 0, 7], &[0, 0, 0], &[0, 1001, 0])
-        )?,
+        ),
         Some(16384)
     );
     Ok(())

@@ -7,7 +7,7 @@ ghost use Rattle.vocabulary.specs.Words.{IsVocabulary, known};
 
 use crate::causes::DialectFault;
 use crate::table::Table;
-use lists::{fits, kept};
+use lists::{List, fits};
 use scale::Scale;
 use vocabulary::Vocabulary;
 
@@ -21,12 +21,10 @@ pub fn check_dialect<V: Vocabulary>(below: &V, entries: &[u16]) -> Result<(), Di
         return Err(DialectFault::Count(entries.len()));
     }
     let count = below.count();
-    for i in 0..entries.len() {
-        if entries[i] >= count {
-            return Err(DialectFault::Entry(i as u8));
-        }
+    match entries.iter().position(|entry| *entry >= count) {
+        Some(i) => Err(DialectFault::Entry(i as u8)),
+        None => Ok(()),
     }
-    Ok(())
 }
 
 /// A dialect: words of its own, each of which stands for a word below.
@@ -46,26 +44,19 @@ impl<V: Vocabulary> Dialect<V> {
         Dialect {
             below,
             table: Table {
-                entries: kept(entries, 0),
-                count: entries.len() as u8,
+                entries: List::from_slice(entries, 0),
             },
         }
     }
 
     /// The word below that the word stands for; nothing for a number that is no word of the dialect.
     fn named(&self, word: u16) -> Option<u16>
-        ensures value { result ≡ known self.now.table.count (word_below (V.Vocabulary.model self.now.below).count (tabled self.now.table)) word }
+        ensures value { result ≡ known (tabled self.now.table).count (word_below (V.Vocabulary.model self.now.below).count (tabled self.now.table)) word }
         ensures laws { IsVocabulary V.Degree.Scale.operations (V.Vocabulary.model self.now.below) }
     {
         let count = self.below.count();
-        if word as usize >= self.table.count as usize {
-            return None;
-        }
-        let entry = self.table.entries[word as usize];
-        if entry < count {
-            return Some(entry);
-        }
-        Some(0)
+        let entry = *self.table.entries.as_slice().get(word as usize)?;
+        Some(if entry < count { entry } else { 0 })
     }
 }
 
@@ -77,21 +68,15 @@ impl<V: Vocabulary> Vocabulary for Dialect<V> {
     fn count(&self) -> u16 {
         // It is a call below that promises the laws below.
         let _ = self.below.count();
-        self.table.count as u16
+        self.table.entries.len() as u16
     }
 
     fn arity(&self, word: u16) -> Option<u8> {
-        match self.named(word) {
-            Some(below) => self.below.arity(below),
-            None => None,
-        }
+        self.below.arity(self.named(word)?)
     }
 
     fn likeness(&self, f: u16, g: u16) -> V::Degree {
-        let Some(left) = self.named(f) else {
-            return V::Degree::bottom();
-        };
-        let Some(right) = self.named(g) else {
+        let (Some(left), Some(right)) = (self.named(f), self.named(g)) else {
             return V::Degree::bottom();
         };
         self.below.likeness(left, right)

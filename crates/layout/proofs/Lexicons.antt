@@ -8,9 +8,9 @@ use Rattle.fault.specs.Firsts.{Below}
 use Rattle.std.proofs.lemmas.List.Edits.{length-between}
 use Rattle.std.proofs.lemmas.Bool.{cases_order}
 use Rattle.vocabulary.proofs.Spellings.{same_joined, same_turned}
-use Rattle.vocabulary.proofs.Words.{known_some, known_word}
+use Rattle.vocabulary.proofs.Words.{known_some}
 use Rattle.vocabulary.specs.Spellings.{IsLexicon, IsSpelling, SameSpelling, Spells}
-use Rattle.layout.specs.Entries.{Differs, FirstSpelled, GoodEntry}
+use Rattle.layout.specs.Entries.{GoodEntry}
 use Rattle.layout.specs.Places.{count_of, entry_end, entry_start, size_at, spelling_at, spelling_of}
 
 spelling_length : (B : List ℕ) (i : ℕ) → GoodEntry B i → length (spelling_at B i) ≡ size_at B i
@@ -50,12 +50,3 @@ module _ (B : List ℕ) (good : ∥ Below (count_of B) (GoodEntry B) ∥₁) whe
               | inr (inr gt) ↦ absurd (apart B w v s (g v x.0) gt y.1 x.1)
             ]);
       }
-
--- What a search by spelling finds, and that it finds what there is.
-pub found_spells : (B s : List ℕ) (n i : ℕ) → n ≡ count_of B → FirstSpelled B n s i → Spells (spelling_of B) i s
-found_spells B s n i counted first =
-    let within : i < count_of B = omega (arith, first.within) in
-    record { written = spelling_at B i; has = known_word (count_of B) (spelling_at B) i within; same = first.same }
-
-pub none_spells : (B s : List ℕ) (n : ℕ) → n ≡ count_of B → Below n (Differs B s) → (w : ℕ) → Spells (spelling_of B) w s → ⊥
-none_spells B s n counted none w has = let x = spelled_so B w s has in none w (omega arith) x.1

@@ -1,10 +1,14 @@
 -- The next entry begins where this one ends.
-use Rattle.std.proofs.Common.{◌≡◌, ℕ, zero, suc, ◌+◌, ◌-◌, ◌≤◌, leb, List, length, None, sym, ap, suc-add, zero-add, add-one, arith}
+use Rattle.std.proofs.Common.{◌≡◌, ℕ, zero, suc, ◌+◌, ◌-◌, ◌≤◌, leb, List, length, None, sym, ap, ◌∙◌, suc-add, zero-add, add-one, arith}
 use Rattle.std.proofs.lemmas.Bool.{cond-false, lt-leb}
 use Rattle.layout.specs.Places.{entry_end, entry_start, spelling_in}
 
 pub start_more : (B : List ℕ) (i : ℕ) → entry_start B (i + 1) ≡ entry_end B (entry_start B i)
 start_more B i = ap (entry_start B) (add-one i)
+
+-- A step of the walk over the entries: from where word i begins to where the next does.
+pub walked : (B : List ℕ) (i at end : ℕ) → at ≡ entry_start B i → end ≡ entry_end B at → end ≡ entry_start B (i + 1)
+walked B i at end here ends = ends ∙ ap (entry_end B) here ∙ sym (start_more B i)
 
 -- Later entries begin later.
 start_later : (B : List ℕ) (i k : ℕ) → entry_start B i ≤ entry_start B (k + i)

@@ -1,11 +1,7 @@
--- A cell of the table lies within it, and is what the book has there.
-use Rattle.std.proofs.Common.{◌≡◌, ℕ, ◌+◌, ◌*◌, ◌<◌, ◌&&◌, ltb, List, length, get_or, drop, Some, sym, ap, ◌∙◌, add_assoc, arith, get_or-drop}
-use Rattle.std.proofs.lemmas.Nat.{mul-add-lt}
+-- A cell of the table is what the book has there.
+use Rattle.std.proofs.Common.{◌≡◌, ℕ, ◌+◌, ◌*◌, ◌<◌, ◌&&◌, ltb, List, get_or, drop, Some, sym, ap, ◌∙◌, add_assoc, arith, get_or-drop}
 use Rattle.std.proofs.lemmas.Bool.{and_from, cond-true, lt-ltb}
 use Rattle.layout.specs.Places.{code_at, code_of, count_of, pair, table_start}
-
-pub cell_within : (T : List ℕ) (n i j : ℕ) → length T ≡ 2 * (n * n) → i < n → j < n → 2 * (i * n + j) + 1 < length T
-cell_within T n i j e p q = omega (arith, mul-add-lt i n j n p q)
 
 -- The two bytes at a place of the table are those at the same place of the book.
 pair_drop : (B : List ℕ) (s k : ℕ) → pair (drop s B) k ≡ pair B (s + k)

@@ -1,4 +1,5 @@
 pub mod Places
+pub mod Kinds
 pub mod Entries
 pub mod Forms
 pub mod Faults

@@ -1,6 +1,4 @@
 ghost use Rattle.layout.specs.Faults.{form_refusal};
-ghost use Rattle.layout.specs.declared.causes.FormFault.TheVariants.{Entry};
-ghost use Rattle.std.specs.Prelude.{◌≡◌};
 
 use fault::{Cause, Fault};
 
@@ -58,13 +56,5 @@ impl Cause for FormFault {
                 | EntryFault::Repeated(_) => Fault::at_words(3, i, 0, 0),
             },
         }
-    }
-}
-
-impl From<(u8, EntryFault)> for FormFault {
-    ghost from_gives = { λ e f. f ≡ Entry e.0 e.1 };
-
-    fn from(value: (u8, EntryFault)) -> FormFault {
-        FormFault::Entry(value.0, value.1)
     }
 }

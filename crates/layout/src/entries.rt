@@ -1,11 +1,21 @@
-ghost use Rattle.std.specs.Prelude.{◌≡◌, ◌+◌, ◌<◌, ◌≤◌, length, MatchOption, MatchResult};
+ghost use Rattle.std.specs.Prelude.{◌≡◌, ◌+◌, ◌^◌, ◌<◌, ◌≤◌, length, MatchOption, MatchResult};
 ghost use Rattle.fault.specs.Firsts.{Below};
 ghost use Rattle.layout.specs.Entries.{BadEntry, Differs, FirstSpelled, GoodEntry, Present};
-ghost use Rattle.layout.specs.Places.{entry_end, entry_start, spelling_in};
+ghost use Rattle.layout.specs.Forms.{BadForm, Headed};
+ghost use Rattle.layout.specs.Places.{count_of, entry_end, entry_start, spelling_in};
 ghost use Rattle.std.specs.Option.{option_map};
 
-use crate::causes::EntryFault;
+use crate::causes::{EntryFault, FormFault};
 use vocabulary::{LONGEST_SPELLING, MOST_ARGUMENTS, same_spelling, spells};
+
+/// Where the entry that begins at `at` ends, by the length that it has behind its arity.
+pub fn entry_end(bytes: &[u8], at: usize) -> usize
+    requires { at + 1 < length bytes.now }
+    ensures value { result ≡ entry_end bytes.now at }
+    ensures bound { result ≤ at + 257 }
+{
+    at + 2 + bytes[at + 1] as usize
+}
 
 /// Where the entry of word `i` begins, or where the entries end.
 pub fn locate(bytes: &[u8], i: u8) -> usize
@@ -14,7 +24,7 @@ pub fn locate(bytes: &[u8], i: u8) -> usize
 {
     let mut at = 5;
     for _k in 0..i {
-        at = at + 2 + bytes[at + 1] as usize;
+        at = entry_end(bytes, at);
     }
     at
 }
@@ -28,7 +38,7 @@ pub fn find(bytes: &[u8], count: u8, word: &[u8]) -> Option<u8>
 {
     let mut at = 5;
     for i in 0..count {
-        let end = at + 2 + bytes[at + 1] as usize;
+        let end = entry_end(bytes, at);
         if same_spelling(&bytes[at + 2..end], word) {
             return Some(i);
         }
@@ -45,24 +55,16 @@ fn entry(bytes: &[u8], i: u8, at: usize) -> Result<usize, EntryFault>
         (λ end. GoodEntry bytes.now i × (end ≡ entry_end bytes.now at))
         (BadEntry bytes.now i) }
 {
-    if at >= bytes.len() {
-        return Err(EntryFault::Cut);
-    }
-    if bytes[at] > MOST_ARGUMENTS {
+    let arity = *bytes.get(at).ok_or(EntryFault::Cut)?;
+    if arity > MOST_ARGUMENTS {
         return Err(EntryFault::Arity);
     }
-    if at + 1 >= bytes.len() {
-        return Err(EntryFault::Cut);
-    }
-    let size = bytes[at + 1];
-    if size < 1 || size as usize > LONGEST_SPELLING {
+    let size = *bytes.get(at + 1).ok_or(EntryFault::Cut)? as usize;
+    if size < 1 || size > LONGEST_SPELLING {
         return Err(EntryFault::Length);
     }
-    let end = at + 2 + size as usize;
-    if end > bytes.len() {
-        return Err(EntryFault::Cut);
-    }
-    let word = &bytes[at + 2..end];
+    let end = at + 2 + size;
+    let word = bytes.get(at + 2..end).ok_or(EntryFault::Cut)?;
     if !spells(word) {
         return Err(EntryFault::Spelling);
     }
@@ -72,21 +74,30 @@ fn entry(bytes: &[u8], i: u8, at: usize) -> Result<usize, EntryFault>
     }
 }
 
-/// Where the entries of `count` words end; refused at the first that is wrong.
-pub fn entries(bytes: &[u8], count: u8) -> Result<usize, (u8, EntryFault)>
-    requires { 5 ≤ length bytes.now }
+/// Where the entries of all words end; refused at the first that is wrong.
+pub fn entries(bytes: &[u8]) -> Result<usize, FormFault>
+    requires { Headed bytes.now }
     ensures { MatchResult result
-        (λ end. Below count (GoodEntry bytes.now) × (end ≡ entry_start bytes.now count) × (end ≤ length bytes.now))
-        (λ f. (f.0 < count) × Below f.0 (GoodEntry bytes.now) × BadEntry bytes.now f.0 f.1) }
+        (λ end. Below (count_of bytes.now) (GoodEntry bytes.now) × (end ≡ entry_start bytes.now (count_of bytes.now)) × (end ≤ length bytes.now))
+        (BadForm bytes.now) }
 {
     let mut at = 5;
-    for i in 0..count {
-        match entry(bytes, i, at) {
-            Ok(end) => at = end,
-            Err(fault) => return Err((i, fault)),
-        }
+    for i in 0..bytes[4] {
+        at = entry(bytes, i, at).map_err(|fault| FormFault::Entry(i, fault))?;
     }
     Ok(at)
+}
+
+/// Where the entry that begins at `at` ends, if the bytes hold its length.
+fn end_if_there(bytes: &[u8], at: usize) -> Option<usize>
+    requires { at < 2 ^ 32 }
+    ensures { MatchOption result (length bytes.now ≤ at + 1)
+        (λ end. (at + 1 < length bytes.now) × (end ≡ entry_end bytes.now at) × (end ≤ at + 257)) }
+{
+    if at + 1 >= bytes.len() {
+        return None;
+    }
+    Some(entry_end(bytes, at))
 }
 
 /// The spelling in the entry of word `i`, if the bytes hold that entry to its end, whether it is right or not.
@@ -95,17 +106,7 @@ pub fn spelling_in(bytes: &[u8], i: u8) -> Option<&[u8]>
 {
     let mut at = 5;
     for _word in 0..i {
-        if at + 1 >= bytes.len() {
-            return None;
-        }
-        at = at + 2 + bytes[at + 1] as usize;
+        at = end_if_there(bytes, at)?;
     }
-    if at + 1 >= bytes.len() {
-        return None;
-    }
-    let end = at + 2 + bytes[at + 1] as usize;
-    if end > bytes.len() {
-        return None;
-    }
-    Some(&bytes[at + 2..end])
+    bytes.get(at + 2..end_if_there(bytes, at)?)
 }

@@ -4,6 +4,7 @@ ghost use Rattle.std.specs.Prelude.{◌≡◌, MatchResult};
 
 use crate::causes::FormFault;
 use crate::entries::entries;
+use crate::kind::Kind;
 use vocabulary::MOST_WORDS;
 
 /// The version of a book that is known.
@@ -13,20 +14,18 @@ const VERSION: u8 = 1;
 fn check_header(bytes: &[u8]) -> Result<(), FormFault>
     ensures { MatchResult result (λ _. Headed bytes.now) (BadForm bytes.now) }
 {
-    if bytes.len() < 5 {
+    let [high, low, version, kind, count, ..] = *bytes else {
         return Err(FormFault::Short);
-    }
-    if bytes.len() != 256 * bytes[0] as usize + bytes[1] as usize + 2 {
+    };
+    if bytes.len() != u16::from_be_bytes([high, low]) as usize + 2 {
         return Err(FormFault::Length);
     }
-    if bytes[2] != VERSION {
-        return Err(FormFault::Version(bytes[2]));
+    if version != VERSION {
+        return Err(FormFault::Version(version));
     }
-    if bytes[3] != 1 && bytes[3] != 2 {
-        return Err(FormFault::Kind(bytes[3]));
-    }
-    if bytes[4] < 1 || bytes[4] as usize > MOST_WORDS {
-        return Err(FormFault::Count(bytes[4]));
+    Kind::try_from(kind)?;
+    if count < 1 || count as usize > MOST_WORDS {
+        return Err(FormFault::Count(count));
     }
     Ok(())
 }
@@ -36,9 +35,8 @@ fn form(bytes: &[u8]) -> Result<(), FormFault>
     ensures { MatchResult result (λ _. GoodForm bytes.now) (BadForm bytes.now) }
 {
     check_header(bytes)?;
-    let count = bytes[4];
-    let start = entries(bytes, count)?;
-    let end = start + 2 * (count as usize * count as usize);
+    let count = bytes[4] as usize;
+    let end = entries(bytes)? + 2 * (count * count);
     if end > bytes.len() {
         return Err(FormFault::TableCut);
     }

@@ -2,11 +2,13 @@ ghost use Rattle.std.specs.Prelude.{◌≡◌, ℕ, ◌+◌, ◌*◌, ◌<◌, �
 ghost use Rattle.fault.specs.Firsts.{Below};
 ghost use Rattle.layout.specs.Entries.{GoodEntry, Present};
 ghost use Rattle.layout.specs.Forms.{GoodForm};
-ghost use Rattle.layout.specs.Places.{arity_at, code_of, count_of, spelling_of, table_start};
+ghost use Rattle.layout.specs.Kinds.{number_of};
+ghost use Rattle.layout.specs.Places.{arity_at, code_of, count_of, entry_start, kind_of, spelling_of, table_start};
 ghost use Rattle.std.specs.Option.{option_map};
 ghost use Rattle.vocabulary.specs.Words.{known};
 
-use crate::entries::{find, locate};
+use crate::entries::{entry_end, find, locate};
+use crate::kind::Kind;
 use vocabulary::{Lexicon, MOST_WORDS};
 
 /// A book of the right form, read where it lies: its words and its table are parts of the lent bytes.
@@ -14,7 +16,9 @@ use vocabulary::{Lexicon, MOST_WORDS};
 pub struct Layout<'a> {
     bytes: &'a [u8],
     table: &'a [u8],
+    kind: Kind,
     count: u8,
+    ghost kinded: { number_of kind ≡ kind_of bytes.now },
     ghost counted: { count ≡ count_of bytes.now },
     ghost some: { 1 ≤ count },
     ghost few: { count ≤ 128 },
@@ -30,13 +34,22 @@ impl<'a> Layout<'a> {
         requires { GoodForm bytes.now }
         ensures { result.bytes.now ≡ bytes.now }
     {
+        let kind = Kind::try_from(bytes[3]).unwrap();
         let count = bytes[4];
         let start = locate(bytes, count);
         Layout {
             bytes,
             table: &bytes[start..],
+            kind,
             count,
         }
+    }
+
+    /// What the likenesses of the book are.
+    pub fn kind(&self) -> Kind
+        ensures { number_of result ≡ kind_of self.now.bytes.now }
+    {
+        self.kind
     }
 
     /// How many words there are.
@@ -47,14 +60,22 @@ impl<'a> Layout<'a> {
         self.count
     }
 
-    /// How many arguments the word takes; nothing where the number is no word.
-    pub fn arity(&self, word: u16) -> Option<u8>
-        ensures { result ≡ known (count_of self.now.bytes.now) (arity_at self.now.bytes.now) word }
+    /// Where the entry of the word begins; nothing where the number is no word.
+    fn start(&self, word: u16) -> Option<usize>
+        ensures { result ≡ known (count_of self.now.bytes.now) (entry_start self.now.bytes.now) word }
     {
         if word >= self.count as u16 {
             return None;
         }
-        Some(self.bytes[locate(self.bytes, word as u8)])
+        Some(locate(self.bytes, word as u8))
+    }
+
+    /// How many arguments the word takes; nothing where the number is no word.
+    pub fn arity(&self, word: u16) -> Option<u8>
+        ensures { result ≡ known (count_of self.now.bytes.now) (arity_at self.now.bytes.now) word }
+    {
+        let at = self.start(word)?;
+        Some(self.bytes[at])
     }
 
     /// The number that the table has for the words `i` and `j`; nothing where one of them is no word.
@@ -65,19 +86,15 @@ impl<'a> Layout<'a> {
             return None;
         }
         let at = 2 * (i as usize * self.count as usize + j as usize);
-        Some(256 * self.table[at] as u16 + self.table[at + 1] as u16)
+        Some(u16::from_be_bytes([self.table[at], self.table[at + 1]]))
     }
 
     /// The spelling of the word; nothing where the number is no word.
     pub fn spelling_of(&self, word: u16) -> Option<&'a [u8]>
         ensures { option_map (λ x. x.now) result ≡ spelling_of self.now.bytes.now word }
     {
-        if word >= self.count as u16 {
-            return None;
-        }
-        let at = locate(self.bytes, word as u8);
-        let end = at + 2 + self.bytes[at + 1] as usize;
-        Some(&self.bytes[at + 2..end])
+        let at = self.start(word)?;
+        Some(&self.bytes[at + 2..entry_end(self.bytes, at)])
     }
 
     /// The arities of all words, each at its number, and 0 behind them.
@@ -87,9 +104,9 @@ impl<'a> Layout<'a> {
     {
         let mut arities = [0; MOST_WORDS];
         let mut at = 5;
-        for i in 0..self.count {
-            arities[i as usize] = self.bytes[at];
-            at = at + 2 + self.bytes[at + 1] as usize;
+        for arity in arities[..self.count as usize].iter_mut() {
+            *arity = self.bytes[at];
+            at = entry_end(self.bytes, at);
         }
         arities
     }
@@ -103,9 +120,6 @@ impl Lexicon for Layout<'_> {
     }
 
     fn word(&self, spelling: &[u8]) -> Option<u16> {
-        match find(self.bytes, self.count, spelling) {
-            Some(word) => Some(word as u16),
-            None => None,
-        }
+        Some(find(self.bytes, self.count, spelling)? as u16)
     }
 }

@@ -4,9 +4,11 @@
 mod causes;
 mod entries;
 mod form;
+mod kind;
 mod layout;
 
 pub use causes::{EntryFault, FormFault};
 pub use entries::spelling_in;
 pub use form::check_form;
+pub use kind::Kind;
 pub use layout::Layout;

@@ -1,4 +1,3 @@
-pub mod Stacks
 pub mod Steps
 pub mod Progress
 pub mod Settled

@@ -9,7 +9,7 @@ use Rattle.unification.specs.Sheets.{Sheet}
 use Rattle.unification.specs.Terms.{Term}
 use Rattle.reading.specs.Reads.{RowsGive}
 use Rattle.reading.specs.Steps.{Due, Overfull}
-use Rattle.reading.specs.declared.words.NoRoom.{NoRoom}
+use Rattle.reading.specs.declared.causes.NoRoom.{NoRoom}
 use Rattle.reading.specs.declared.words.OpenWord.{OpenWord}
 use Rattle.reading.proofs.Steps.{due_whole, some_item}
 

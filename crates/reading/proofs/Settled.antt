@@ -21,7 +21,7 @@ pub table_coherent : (t : Table) → IsCoherent (sheet_of t.rows t.equations)
 table_coherent t = coherent_at_hand t.coherent
 
 pub table_short : (t : Table) → length (sheet_of t.rows t.equations).rows ≤ 512
-table_short t = let b = t.rows.within in simp (length-map, length-take) (omega arith)
+table_short t = let b = t.rows.items.within in simp (length-map, length-take) (omega arith)
 
 -- A refusal changes nothing.
 pub kept_same : {A T E : Type 0} (r : Result T E) (x : A) → KeptOnErr r x x
@@ -64,5 +64,6 @@ module _ (spellings : ℕ → Option (List ℕ)) (arities : List ℕ) (text : Li
   read_settled s I (Err Full) (Err (Text g)) u v h k = absurd (not_both h.0 g k.0)
   read_settled s I (Err Full) (Err Full) u v h k = (refl, k.2 ∙ sym h.2)
 
-  pub text_refused_lem : (s u : Sheet) (r : Result ℕ ReadFault) (e : ReadFault) (f : TextFault) → r ≡ Err e → e ≡ Text f → Refused spellings arities text f → u ≡ s → ReadGives spellings arities s text r u
-  text_refused_lem s u r e f is told refused same = subst (λ (q : Result ℕ ReadFault). ReadGives spellings arities s text q u) (sym (is ∙ ap Err told)) (refused, same)
+  -- a fault that was converted is the fault
+  pub refused_as : (s u : Sheet) (r : Result ℕ ReadFault) (e f : ReadFault) → r ≡ Err e → e ≡ f → ReadGives spellings arities s text (Err f) u → ReadGives spellings arities s text r u
+  refused_as s u r e f is told h = subst (λ (q : Result ℕ ReadFault). ReadGives spellings arities s text q u) (sym (is ∙ ap Err told)) h

@@ -1,5 +1,6 @@
 -- The steps of a reading: an item is taken, a row is given to the innermost open word, a word is composed.
-use Rattle.std.proofs.Common.{◌≡◌, ℕ, zero, suc, ◌+◌, ◌<◌, ◌≤◌, List, [], ◌∷◌, ◌++◌, length, get_or, Some, None, Ok, Err, Option, Result, sym, refl, ap, ◌∙◌, subst, inl, inr, append_assoc, append-nil, arith, length-append}
+use Rattle.std.proofs.Common.{◌≡◌, ℕ, zero, suc, ◌+◌, ◌<◌, ◌≤◌, List, [], ◌∷◌, ◌++◌, reverse, length, get_or, Some, None, Ok, Err, Option, Result, sym, refl, ap, ◌∙◌, subst, inl, inr, append_assoc, append-nil, arith, length-append}
+use mathlib.Core.List.{reverse-append}
 use Rattle.fault.specs.Firsts.{Below}
 use Rattle.table.specs.Calls.{AreRows, ComposeGives, VariableGives}
 use Rattle.table.specs.declared.causes.RowFault.{RowFault}
@@ -13,9 +14,9 @@ use Rattle.unification.specs.Sheets as sheet
 use Rattle.unification.specs.Terms.{Term, Terms, var, app, nil, cons, size, Formed}
 use Rattle.unification.proofs.Putting.{put_all_total, put_all_extends, put_extends, extends_length, appended_length, put_row}
 use Rattle.reading.specs.Frames.{Frame, Leads, pending, Framed, IsOpen, AreOpen}
-use Rattle.reading.specs.Stacks.{given_to, OneMore}
+use Rattle.reading.specs.Stacks.{given_to}
 use Rattle.reading.specs.Steps.{Overfull, Due, Made, Comes}
-use Rattle.reading.specs.declared.words.NoRoom.{NoRoom}
+use Rattle.reading.specs.declared.causes.NoRoom.{NoRoom}
 use Rattle.reading.specs.declared.words.OpenWord.{OpenWord}
 
 -- What is asked of the frames stays so as rows are added.
@@ -159,17 +160,17 @@ module _ (arities : List ℕ) (start : Sheet) (t : Term) where
         due_overfull ws s (word f ∷ es) d (length s.rows) u (subst (λ (y : Term). Put s y (length s.rows) u) (sym is.0) (built none)) (omega arith)
 
     -- a word with arguments is opened
-    opened_by : (f : ℕ) (w : OpenWord) → w.word ≡ f → w.takes ≡ get_or arities f 0 → w.has ≡ 0 → length w.rows ≡ 6 → given_to w ≡ [] → w.takes ≤ 6 → 0 < get_or arities f 0 →
+    opened_by : (f : ℕ) (w : OpenWord) → w.word ≡ f → w.takes ≡ get_or arities f 0 → given_to w ≡ [] → w.takes ≤ 6 → 0 < get_or arities f 0 →
         (next : Term) (frames : List Frame) (depth : ℕ) → Formed (length arities) (λ w. get_or arities w 0) next → Nested next depth → Framed arities s frames depth → AreOpen ws frames →
         ((p r : ℕ) (v u : Sheet) → Put s next p v → Leads frames p v r u → Put start t r u) →
         (ts : Terms) → next ≡ app f ts → es ≡ all_items ts ++ pending frames → Due arities start t (w ∷ ws) s es
-    opened_by f w iw it ih isz ir few pos next frames depth formed nested framed opened leads nil e left =
+    opened_by f w iw it ir few pos next frames depth formed nested framed opened leads nil e left =
         let k : Formed (length arities) (λ w. get_or arities w 0) (app f nil) = subst (Formed (length arities) (λ w. get_or arities w 0)) e formed in
         let m = k.1 in
         absurd (omega arith)
-    opened_by f w iw it ih isz ir few pos next frames zero formed nested framed opened leads (cons a as') e left =
+    opened_by f w iw it ir few pos next frames zero formed nested framed opened leads (cons a as') e left =
         absurd (subst (λ (y : Term). Nested y 0) e nested)
-    opened_by f w iw it ih isz ir few pos next frames (suc depth) formed nested framed opened leads (cons a as') e left =
+    opened_by f w iw it ir few pos next frames (suc depth) formed nested framed opened leads (cons a as') e left =
         let k : Formed (length arities) (λ w. get_or arities w 0) (app f (cons a as')) = subst (Formed (length arities) (λ w. get_or arities w 0)) e formed in
         let n : Nested (app f (cons a as')) (suc depth) = subst (λ (y : Term). Nested y (suc depth)) e nested in
         let m = k.1 in
@@ -180,15 +181,15 @@ module _ (arities : List ℕ) (start : Sheet) (t : Term) where
           formed = k.2.0;
           nested = n.0;
           framed = (k.2.1, n.1, (λ i l. absurd (omega arith)), framed);
-          opened = (record { word = iw; has = ih; takes = omega arith; few = few; size = isz; rows = ir }, opened);
+          opened = (record { word = iw; takes = omega arith; few = few; rows = ir }, opened);
           leads = λ p r v u put l. leads (length l.1.rows) r (appended l.1 (composed f (p ∷ l.0))) u (subst (λ (y : Term). Put s y (length l.1.rows) (appended l.1 (composed f (p ∷ l.0)))) (sym e) (built (each put l.2))) l.3;
           left = left ∙ append_assoc (items a) (all_items as') (pending frames);
         }
 
-    pub word_opened : (f : ℕ) (w : OpenWord) → Due arities start t ws s (word f ∷ es) → w.word ≡ f → w.takes ≡ get_or arities f 0 → w.has ≡ 0 → length w.rows ≡ 6 → given_to w ≡ [] → w.takes ≤ 6 → 0 < get_or arities f 0 → Due arities start t (w ∷ ws) s es
-    word_opened f w d iw it ih isz ir few pos =
+    pub word_opened : (f : ℕ) (w : OpenWord) → Due arities start t ws s (word f ∷ es) → w.word ≡ f → w.takes ≡ get_or arities f 0 → given_to w ≡ [] → w.takes ≤ 6 → 0 < get_or arities f 0 → Due arities start t (w ∷ ws) s es
+    word_opened f w d iw it ir few pos =
         let is = starts_word d.next f es (pending d.frames) d.left in
-        opened_by f w iw it ih isz ir few pos d.next d.frames d.depth d.formed d.nested d.framed d.opened d.leads is.0 is.1 is.2
+        opened_by f w iw it ir few pos d.next d.frames d.depth d.formed d.nested d.framed d.opened d.leads is.0 is.1 is.2
 
     deep : (f : ℕ) (ts : Terms) (next : Term) (depth : ℕ) → next ≡ app f ts → Nested next depth → 0 < size ts → 0 < depth
     deep f nil next depth e n h = absurd (omega arith)
@@ -212,40 +213,48 @@ below_last [] p n b h (suc i) l = absurd (omega arith)
 below_last (x ∷ xs) p n b h zero l = b 0 (omega arith)
 below_last (x ∷ xs) p n b h (suc i) l = below_last xs p n (λ j k. b (suc j) (omega arith)) h i (omega arith)
 
+-- The open word is w, with one argument more.
+pub record OneMore (w : OpenWord) (p : ℕ) (v : OpenWord) : Type 0 where
+  pub word : v.word ≡ w.word
+  pub takes : v.takes ≡ w.takes
+  pub rows : given_to v ≡ given_to w ++ (p ∷ [])
+
+-- The innermost open word is the last of the list.
+last_inner : (l k : List OpenWord) (w : OpenWord) → l ≡ k ++ (w ∷ []) → reverse l ≡ w ∷ reverse k
+last_inner l k w e = ap reverse e ∙ reverse-append k (w ∷ [])
+
+pub made_popped : (arities : List ℕ) (start : Sheet) (t : Term) (l k : List OpenWord) (w : OpenWord) (p : ℕ) (s : Sheet) (es : List Entry) → l ≡ k ++ (w ∷ []) → Made arities start t (reverse l) p s es → Made arities start t (w ∷ reverse k) p s es
+made_popped arities start t l k w p s es e m = subst (λ (ws : List OpenWord). Made arities start t ws p s es) (last_inner l k w e) m
+
+pub due_pushed : (arities : List ℕ) (start : Sheet) (t : Term) (l k : List OpenWord) (w : OpenWord) (s : Sheet) (es : List Entry) → l ≡ k ++ (w ∷ []) → Due arities start t (w ∷ reverse k) s es → Due arities start t (reverse l) s es
+due_pushed arities start t l k w s es e d = subst (λ (ws : List OpenWord). Due arities start t ws s es) (sym (last_inner l k w e)) d
+
 -- A row is given to the innermost open word.
 module _ (arities : List ℕ) (start : Sheet) (t : Term) (w : OpenWord) (ws : List OpenWord) (p : ℕ) (s : Sheet) (es : List Entry) where
   abbrev frame : ℕ → List ℕ → Terms → Frame
   frame f rows rest = record { word = f; rows = rows; rest = rest }
 
-  room_by : (fs : List Frame) → AreOpen (w ∷ ws) fs → (length w.rows ≡ 6) × (w.has < 6)
+  room_by : (fs : List Frame) → AreOpen (w ∷ ws) fs → length (given_to w) < 6
   room_by [] o = absurd o
-  room_by (f ∷ fs) o = let h = o.0.has in let k = o.0.takes in let l = o.0.few in (o.0.size, omega arith)
+  room_by (f ∷ fs) o = omega (arith, ap length o.0.rows, o.0.takes, o.0.few)
 
-  pub made_room : Made arities start t (w ∷ ws) p s es → (length w.rows ≡ 6) × (w.has < 6)
+  pub made_room : Made arities start t (w ∷ ws) p s es → length (given_to w) < 6
   made_room m = room_by m.frames m.opened
-
-  pub made_few : Made arities start t (w ∷ ws) p s es → length ws < 31
-  made_few m =
-      let b = framed_depth arities s m.frames m.depth m.framed in
-      let c = open_length (w ∷ ws) m.frames m.opened in
-      omega arith
 
   module _ (v : OpenWord) (g : OneMore w p v) where
     rows_are : (f : ℕ) (rows : List ℕ) (rest : Terms) → IsOpen w (frame f rows rest) → given_to v ≡ rows ++ (p ∷ [])
     rows_are f rows rest o = g.rows ∙ ap (λ (l : List ℕ). l ++ (p ∷ [])) o.rows
 
+    one_more : (f : ℕ) (rows : List ℕ) (rest : Terms) → IsOpen w (frame f rows rest) → length (given_to v) ≡ length rows + 1
+    one_more f rows rest o = ap length (rows_are f rows rest o) ∙ length-append rows (p ∷ [])
+
     -- it still lacks an argument
     due_by : (f : ℕ) (rows : List ℕ) (rest : Terms) (fs : List Frame) (d : ℕ) → Framed arities s (frame f rows rest ∷ fs) d → IsOpen w (frame f rows rest) → AreOpen ws fs → p < length s.rows →
-        ((r : ℕ) (u : Sheet) → Leads (frame f rows rest ∷ fs) p s r u → Put start t r u) → es ≡ pending (frame f rows rest ∷ fs) → v.has < v.takes → Due arities start t (v ∷ ws) s es
-    due_by f rows nil fs d framed o opened row leads left lacks =
-        let a = g.has in let b = g.takes in let c = o.has in let e = o.takes in absurd (omega arith)
+        ((r : ℕ) (u : Sheet) → Leads (frame f rows rest ∷ fs) p s r u → Put start t r u) → es ≡ pending (frame f rows rest ∷ fs) → length (given_to v) < v.takes → Due arities start t (v ∷ ws) s es
+    due_by f rows nil fs d framed o opened row leads left lacks = absurd (omega (arith, one_more f rows nil o, g.takes, o.takes))
     due_by f rows (cons x xs) fs d framed o opened row leads left lacks =
         let n = length-append rows (p ∷ []) in
-        let a = g.has in
-        let b = g.takes in
-        let c = o.has in
-        let e = o.takes in
-        let few = o.few in
+        let takes : v.takes ≡ length (rows ++ (p ∷ [])) + 1 + size xs = omega (arith, g.takes, o.takes) in
         record {
           next = x;
           frames = frame f (rows ++ (p ∷ [])) xs ∷ fs;
@@ -253,24 +262,23 @@ module _ (arities : List ℕ) (start : Sheet) (t : Term) (w : OpenWord) (ws : Li
           formed = framed.0.0;
           nested = framed.1.0;
           framed = (framed.0.1, framed.1.1, below_last rows p (length s.rows) framed.2 row, framed.3);
-          opened = (record { word = g.word ∙ o.word; has = omega arith; takes = omega arith; few = omega arith; size = g.size; rows = rows_are f rows (cons x xs) o }, opened);
+          opened = (record { word = g.word ∙ o.word; takes = takes; few = omega (arith, g.takes, o.few); rows = rows_are f rows (cons x xs) o }, opened);
           leads = λ q r y u put l.
               leads r u (q ∷ l.0, l.1, each put l.2, subst (λ (k : List ℕ). Leads fs (length l.1.rows) (appended l.1 (composed f k)) r u) (append_assoc (rows ++ (p ∷ [])) (q ∷ []) l.0) l.3);
           left = left ∙ append_assoc (items x) (all_items xs) (pending fs);
         }
 
-    pub given_due : Made arities start t (w ∷ ws) p s es → v.has < v.takes → Due arities start t (v ∷ ws) s es
+    pub given_due : Made arities start t (w ∷ ws) p s es → length (given_to v) < v.takes → Due arities start t (v ∷ ws) s es
     given_due m = go m.frames m.depth m.framed m.opened m.leads m.left
       where
-        go : (fs : List Frame) (d : ℕ) → Framed arities s fs d → AreOpen (w ∷ ws) fs → ((r : ℕ) (u : Sheet) → Leads fs p s r u → Put start t r u) → es ≡ pending fs → v.has < v.takes → Due arities start t (v ∷ ws) s es
+        go : (fs : List Frame) (d : ℕ) → Framed arities s fs d → AreOpen (w ∷ ws) fs → ((r : ℕ) (u : Sheet) → Leads fs p s r u → Put start t r u) → es ≡ pending fs → length (given_to v) < v.takes → Due arities start t (v ∷ ws) s es
         go [] d framed o leads left = absurd o
         go (f ∷ fs) d framed o leads left = due_by f.word f.rows f.rest fs d framed o.0 o.1 m.row leads left
 
     -- it has all: it is composed
     made_by : (f : ℕ) (rows : List ℕ) (rest : Terms) (fs : List Frame) (d : ℕ) → Framed arities s (frame f rows rest ∷ fs) d → IsOpen w (frame f rows rest) → AreOpen ws fs →
-        ((r : ℕ) (u : Sheet) → Leads (frame f rows rest ∷ fs) p s r u → Put start t r u) → es ≡ pending (frame f rows rest ∷ fs) → v.takes ≤ v.has → (q : ℕ) (u : Sheet) → q ≡ length s.rows → u ≡ appended s (composed v.word (given_to v)) → Made arities start t ws q u es
-    made_by f rows (cons x xs) fs d framed o opened leads left full q u iq iu =
-        let a = g.has in let b = g.takes in let c = o.has in let e = o.takes in absurd (omega arith)
+        ((r : ℕ) (u : Sheet) → Leads (frame f rows rest ∷ fs) p s r u → Put start t r u) → es ≡ pending (frame f rows rest ∷ fs) → v.takes ≤ length (given_to v) → (q : ℕ) (u : Sheet) → q ≡ length s.rows → u ≡ appended s (composed v.word (given_to v)) → Made arities start t ws q u es
+    made_by f rows (cons x xs) fs d framed o opened leads left full q u iq iu = absurd (omega (arith, one_more f rows (cons x xs) o, g.takes, o.takes))
     made_by f rows nil fs d framed o opened leads left full q u iq iu =
         let row = composed f ((rows ++ (p ∷ [])) ++ []) in
         let same : given_to v ≡ (rows ++ (p ∷ [])) ++ [] = rows_are f rows nil o ∙ sym (append-nil (rows ++ (p ∷ []))) in
@@ -286,7 +294,7 @@ module _ (arities : List ℕ) (start : Sheet) (t : Term) (w : OpenWord) (ws : Li
           left = left;
         }
 
-    pub given_made : Made arities start t (w ∷ ws) p s es → v.takes ≤ v.has → (q : ℕ) (u : Sheet) → ComposeGives s v.word (given_to v) (Ok q) u → Made arities start t ws q u es
+    pub given_made : Made arities start t (w ∷ ws) p s es → v.takes ≤ length (given_to v) → (q : ℕ) (u : Sheet) → ComposeGives s v.word (given_to v) (Ok q) u → Made arities start t ws q u es
     given_made m full q u c = go m.frames m.depth m.framed m.opened m.leads m.left
       where
         go : (fs : List Frame) (d : ℕ) → Framed arities s fs d → AreOpen (w ∷ ws) fs → ((r : ℕ) (u : Sheet) → Leads fs p s r u → Put start t r u) → es ≡ pending fs → Made arities start t ws q u es
@@ -304,7 +312,7 @@ module _ (arities : List ℕ) (start : Sheet) (t : Term) (w : OpenWord) (ws : Li
         let long = ap length e in
         (omega arith, subst (AreRows s) (sym e) (below_last f.rows p (length s.rows) framed.2 row))
 
-    pub given_refused : Made arities start t (w ∷ ws) p s es → v.takes ≤ v.has → (e : RowFault) (u : Sheet) → ComposeGives s v.word (given_to v) (Err e) u → Overfull start t
+    pub given_refused : Made arities start t (w ∷ ws) p s es → v.takes ≤ length (given_to v) → (e : RowFault) (u : Sheet) → ComposeGives s v.word (given_to v) (Err e) u → Overfull start t
     given_refused m full TooMany u c = let f = (fit_by m.frames m.depth m.framed m.opened m.row).0 in let a = c.0 in absurd (omega arith)
     given_refused m full (Missing i) u c = let f = (fit_by m.frames m.depth m.framed m.opened m.row).1 in absurd (c.1.fails (f i c.1.within))
     given_refused m full Label u c = absurd c
@@ -333,10 +341,6 @@ made_whole arities start t p s es m = go m.frames m.opened m.leads m.left
 -- A refusal says that there are too many rows.
 pub comes_refused : (arities : List ℕ) (start : Sheet) (t : Term) (r : Result (Option ℕ) NoRoom) (e : NoRoom) (ws : List OpenWord) (s : Sheet) (es : List Entry) → r ≡ Err e → Overfull start t → Comes arities start t r ws s es
 comes_refused arities start t r e ws s es is h = subst (λ (q : Result (Option ℕ) NoRoom). Comes arities start t q ws s es) (sym is) h
-
-pub made_moved : (arities : List ℕ) (start : Sheet) (t : Term) (ws : List OpenWord) (p q : ℕ) (u v : Sheet) (es : List Entry) → q ≡ p → v ≡ u → Made arities start t ws p u es → Made arities start t ws q v es
-made_moved arities start t ws p q u v es e f m =
-    subst (λ (z : Sheet). Made arities start t ws q z es) (sym f) (subst (λ (k : ℕ). Made arities start t ws k u es) (sym e) m)
 
 -- What else comes of a step.
 pub comes_whole : (arities : List ℕ) (start : Sheet) (t : Term) (r : Result (Option ℕ) NoRoom) (o : Option ℕ) (p : ℕ) (ws : List OpenWord) (s : Sheet) (es : List Entry) → r ≡ Ok o → o ≡ Some p → Comes arities start t r ws s es → Put start t p s

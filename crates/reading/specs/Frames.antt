@@ -40,10 +40,8 @@ Framed arities s (f ∷ fs) d =
 -- The open word is that of the frame.
 pub record IsOpen (w : OpenWord) (f : Frame) : Type 0 where
   pub word : w.word ≡ f.word
-  pub has : w.has ≡ length f.rows
   pub takes : w.takes ≡ length f.rows + 1 + size f.rest
   pub few : w.takes ≤ 6
-  pub size : length w.rows ≡ 6
   pub rows : given_to w ≡ f.rows
 
 abbrev pub AreOpen : List OpenWord → List Frame → Type 0

@@ -7,7 +7,7 @@ use Rattle.unification.specs.Sheets.{Sheet}
 use Rattle.unification.specs.Terms.{Term}
 use Rattle.reading.specs.Steps.{Overfull}
 use Rattle.reading.specs.declared.causes.ReadFault.{ReadFault}
-use Rattle.reading.specs.declared.words.NoRoom.{NoRoom}
+use Rattle.reading.specs.declared.causes.NoRoom.{NoRoom}
 use Rattle.reading.specs.declared.causes.ReadFault.TheVariants.{Text, Full}
 
 -- No word takes more arguments than a row has.

@@ -7,7 +7,7 @@ use Rattle.unification.specs.Putting.{Put}
 use Rattle.unification.specs.Sheets.{Sheet}
 use Rattle.unification.specs.Terms.{Term, Formed}
 use Rattle.reading.specs.Frames.{Frame, Leads, pending, Framed, AreOpen}
-use Rattle.reading.specs.declared.words.NoRoom.{NoRoom}
+use Rattle.reading.specs.declared.causes.NoRoom.{NoRoom}
 use Rattle.reading.specs.declared.words.OpenWord.{OpenWord}
 
 -- Putting the term onto the sheet makes more rows than there can be.

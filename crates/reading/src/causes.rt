@@ -1,9 +1,22 @@
 ghost use Rattle.reading.specs.Faults.{read_refusal};
-ghost use Rattle.reading.specs.declared.causes.ReadFault.TheVariants.{Text};
+ghost use Rattle.reading.specs.declared.causes.ReadFault.TheVariants.{Full, Text};
 ghost use Rattle.std.specs.Prelude.{◌≡◌};
 
 use fault::{Fault, Layer};
+use table::RowFault;
 use text::TextFault;
+
+/// There is no room for a further row.
+#[derive(Clone, Copy, PartialEq, Eq, Debug)]
+pub struct NoRoom;
+
+impl From<RowFault> for NoRoom {
+    ghost from_gives = { λ _ _. Unit {0} };
+
+    fn from(_fault: RowFault) -> NoRoom {
+        NoRoom
+    }
+}
 
 /// Why a text was not read.
 #[derive(Clone, Copy, PartialEq, Eq, Debug)]
@@ -35,5 +48,13 @@ impl From<TextFault> for ReadFault {
 
     fn from(fault: TextFault) -> ReadFault {
         ReadFault::Text(fault)
+    }
+}
+
+impl From<NoRoom> for ReadFault {
+    ghost from_gives = { λ _ r. r ≡ Full };
+
+    fn from(_fault: NoRoom) -> Self {
+        Self::Full
     }
 }

@@ -7,32 +7,33 @@ ghost use Rattle.table.specs.Uniformity.{IsUniform};
 ghost use Rattle.text.specs.Verdicts.{Accepted};
 ghost use Rattle.unification.specs.Sheets.{Sheet};
 
-use crate::causes::ReadFault;
-use crate::words::{NoRoom, OpenWords};
+use crate::causes::{NoRoom, ReadFault};
+use crate::words::{OpenWord, take};
+use lists::List;
 use table::Table;
-use text::{check_text, next_item};
+use text::{Source, check_text};
 use vocabulary::Lexicon;
 
 /// Puts the rows of a checked text onto the table, and answers the row of the whole.
 fn read_rows<L: Lexicon>(
     table: &mut Table,
-    text: &[u8],
+    source: &Source,
     lexicon: &L,
     arities: &[u8],
 ) -> Result<u16, NoRoom>
     requires few { FewEach arities.now }
-    requires accepted { Accepted (L.Lexicon.spellings lexicon.now) arities.now text.now }
-    ensures rows { (a : Accepted (L.Lexicon.spellings lexicon.now) arities.now text.now) →
+    requires accepted { Accepted (L.Lexicon.spellings lexicon.now) arities.now source.now.bytes.now }
+    ensures rows { (a : Accepted (L.Lexicon.spellings lexicon.now) arities.now source.now.bytes.now) →
         RowsGive (sheet_of table.old.rows table.old.equations) a.term result (sheet_of table.new.rows table.new.equations) }
     ensures uniform { IsUniform table.old.rows table.old.equations table.old.classes → IsUniform table.new.rows table.new.equations table.new.classes }
 {
-    let mut open = OpenWords::none();
+    let mut opened = List::new(OpenWord::new(0, 0));
     let mut at = 0;
-    while let Some(next) = next_item(text, lexicon, at) {
-        match open.take(table, next.item, arities)? {
-            Some(row) => return Ok(row),
-            None => at = next.end,
+    while let Some(next) = source.next_item(lexicon, at) {
+        if let Some(row) = take(&mut opened, table, next.item, arities)? {
+            return Ok(row);
         }
+        at = next.end;
     }
     // a checked text has all its arguments, so the last item has closed every word
     Err(NoRoom)
@@ -52,12 +53,8 @@ pub fn read_text<L: Lexicon>(
     ensures uniform { IsUniform table.old.rows table.old.equations table.old.classes → IsUniform table.new.rows table.new.equations table.new.classes }
 {
     check_text(text, lexicon, arities)?;
-    let before = *table;
-    match read_rows(table, text, lexicon, arities) {
-        Ok(row) => Ok(row),
-        Err(_) => {
-            *table = before;
-            Err(ReadFault::Full)
-        }
-    }
+    let mut read = *table;
+    let row = read_rows(&mut read, &Source::new(text), lexicon, arities)?;
+    *table = read;
+    Ok(row)
 }

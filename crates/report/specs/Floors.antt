@@ -1,7 +1,7 @@
 use Rattle.std.specs.Prelude.{ℕ, Bool, false, List, ◌++◌, is_some, Some, None, Ok, Err, codes, decimal, Option, Result}
 use Rattle.book.specs.Likeness.{words_of}
-use Rattle.book.specs.declared.checks.Kind.{Kind}
-use Rattle.book.specs.declared.checks.Kind.TheVariants.{Marks, Lines}
+use Rattle.layout.specs.declared.kind.Kind.{Kind}
+use Rattle.layout.specs.declared.kind.Kind.TheVariants.{Marks, Lines}
 use Rattle.book.specs.declared.causes.BookFault.{BookFault}
 use Rattle.fault.specs.Lines.{fault_line}
 use Rattle.fault.specs.declared.fault.Fault.{Fault}

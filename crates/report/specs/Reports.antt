@@ -1,11 +1,12 @@
 use Rattle.std.specs.Prelude.{ℕ, cond, List, ◌++◌, Ok, Err, codes, decimal, Result, ◌==◌}
 use Rattle.book.specs.Faults.{book_refusal}
 use Rattle.book.specs.Likeness.{words_of}
-use Rattle.book.specs.declared.checks.Kind.{Kind}
-use Rattle.book.specs.declared.checks.Kind.TheVariants.{Marks, Lines}
+use Rattle.layout.specs.declared.kind.Kind.{Kind}
+use Rattle.layout.specs.declared.kind.Kind.TheVariants.{Marks, Lines}
 use Rattle.book.specs.declared.causes.BookFault.{BookFault}
 use Rattle.book.specs.declared.causes.BookFault.TheVariants.{Form, Law}
 use Rattle.fault.specs.Lines.{fault_line}
+use Rattle.layout.specs.Kinds.{kind_text}
 use Rattle.layout.specs.Places.{count_of, kind_of, spelling_of}
 use Rattle.scale.specs.Degrees.{line_operations, mark_operations}
 use Rattle.scale.specs.Told.{lines_text, mark_text}
@@ -31,15 +32,12 @@ sentence_text B (Law f) =
 abbrev pub refusal_text : List ℕ → BookFault → List ℕ
 refusal_text B f = fault_line (book_refusal f) ++ (codes "\n" ++ (sentence_text B f ++ codes "\n"))
 
--- An accepted book of marks, or of lines: its number of words, and the words.
-abbrev pub marks_text : ℕ → List ℕ → List ℕ
-marks_text count words = codes "A book of marks, words: " ++ (decimal count ++ (codes "\n" ++ words))
-
-abbrev pub lines_book_text : ℕ → List ℕ → List ℕ
-lines_book_text count words = codes "A book of lines, words: " ++ (decimal count ++ (codes "\n" ++ words))
+-- An accepted book: its kind, its number of words, and the words.
+abbrev pub book_text : Kind → ℕ → List ℕ → List ℕ
+book_text kind count words = codes "A book of " ++ (kind_text kind ++ (codes ", words: " ++ (decimal count ++ (codes "\n" ++ words))))
 
 -- What is told of bytes that are offered as a book, by the verdict on them.
 abbrev pub report_text : List ℕ → Result Kind BookFault → List ℕ
-report_text B (Ok Marks) = marks_text (count_of B) (marks_words B)
-report_text B (Ok Lines) = lines_book_text (count_of B) (lines_words B)
+report_text B (Ok Marks) = book_text Marks (count_of B) (marks_words B)
+report_text B (Ok Lines) = book_text Lines (count_of B) (lines_words B)
 report_text B (Err f) = refusal_text B f

@@ -1,5 +1,6 @@
-use Rattle.std.specs.Prelude.{◌≡◌, ℕ, zero, suc, Bool, false, List, [], ◌∷◌, ◌++◌, is_ok, Ok, Err, codes, Result}
-use Rattle.book.specs.declared.checks.Kind.{Kind}
+use Rattle.std.specs.Prelude.{ℕ, zero, suc, false, List, [], ◌∷◌, ◌++◌, is_ok, Ok, Err, codes, Result}
+use Rattle.std.specs.List.{repeat}
+use Rattle.layout.specs.declared.kind.Kind.{Kind}
 use Rattle.book.specs.declared.causes.BookFault.{BookFault}
 use Rattle.fault.specs.Lines.{fault_line}
 use Rattle.fault.specs.declared.fault.Fault.{Fault}
@@ -9,12 +10,15 @@ use Rattle.text.specs.Faults.{text_refusal}
 use Rattle.text.specs.Sentences.{says}
 use Rattle.text.specs.Verdicts.{Verdict as TextVerdict}
 use Rattle.text.specs.declared.causes.TextFault.{TextFault}
-use Rattle.scale.specs.Told.{listing}
+use Rattle.std.proofs.Common.{String}
+use Rattle.std.specs.declared.alloc.Global.{Global}
 use Rattle.report.specs.Reports.{refusal_text}
+use Rattle.report.specs.Told.{Tells}
+use Rattle.report.specs.declared.told.Untold.{Untold}
 
 -- A caret under a place: so many blanks before it.
 abbrev pub caret_text : ℕ → List ℕ
-caret_text place = listing place (λ i. codes " ") ++ codes "^"
+caret_text place = repeat place (codes " ") ++ codes "^"
 
 -- A refused text, made of its parts.
 abbrev pub shown_refusal : Fault → List ℕ → List ℕ → List ℕ → List ℕ
@@ -35,8 +39,8 @@ arity_list zero arity = []
 arity_list (suc n) arity = arity_list n arity ++ (arity n ∷ [])
 
 -- What is told of a text over the words of the book B: by the verdict on the book, and where it is accepted by that on the text.
-abbrev pub TextTold : List ℕ → List ℕ → Result Kind BookFault → Bool → List ℕ → Type 0
-TextTold B text (Ok kind) accepted told =
+abbrev pub TextTold : List ℕ → List ℕ → Result Kind BookFault → Result (String Global) Untold → Type 0
+TextTold B text (Ok kind) r =
     (w : Result (Unit {0}) TextFault) → TextVerdict (spelling_of B) (arity_list (count_of B) (arity_at B)) text w →
-    (accepted ≡ is_ok w) × (told ≡ text_report text w)
-TextTold B text (Err f) accepted told = (accepted ≡ false) × (told ≡ refusal_text B f)
+    Tells (is_ok w) (text_report text w) r
+TextTold B text (Err f) r = Tells false (refusal_text B f) r

@@ -13,13 +13,8 @@ fn spelled(heap: Global, bytes: &[u8], i: u8) -> Result<String, AllocError>
     requires { GoodEntry bytes.now i }
     ensures { IfOk result (λ s. string_bytes s ≡ spelling_at bytes.now i) }
 {
-    match spelling_in(bytes, i) {
-        Some(spelling) => match str::from_utf8(spelling) {
-            Ok(text) => String::from_str(heap, text),
-            Err(_) => unreachable(),
-        },
-        None => unreachable(),
-    }
+    let spelling = spelling_in(bytes, i).unwrap();
+    String::from_str(heap, str::from_utf8(spelling).unwrap())
 }
 
 /// What is wrong with the entry of word `i`.

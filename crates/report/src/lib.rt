@@ -7,7 +7,9 @@ mod floors;
 mod forms;
 mod laws;
 mod texts;
+mod told;
 
-pub use books::{Report, report_on};
+pub use books::report_on;
 pub use floors::report_above;
 pub use texts::report_text;
+pub use told::Untold;

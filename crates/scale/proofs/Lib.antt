@@ -1,2 +1,3 @@
 pub mod Orders
 pub mod Listings
+pub mod Equality

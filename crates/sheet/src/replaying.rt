@@ -59,6 +59,7 @@ pub fn replay<'a, V: Vocabulary, L: Lexicon>(
     let _ = vocabulary.count();
     let mut sheet = Sheet::new(vocabulary);
     let count = calls.len().min(outcomes.len());
+    // by the index: a `zip` with `iter_mut` was tried, and what it leaves in the outcomes could not be read in the proof
     for i in 0..count {
         outcomes[i] = sheet.carry_out(&calls[i]);
     }

@@ -103,16 +103,14 @@ impl<'a, V: Vocabulary> Sheet<'a, V> {
         let _ = self.vocabulary.count();
         let e = Equation { left: p, right: q };
         let classes = self.table.join(e)?;
-        if gather(self.vocabulary, &self.table, &classes).same(V::Degree::bottom()) {
+        if gather(self.vocabulary, &self.table, &classes) == V::Degree::bottom() {
             return Err(EquateFault::Clash);
         }
-        match self.table.deepen(e, &classes) {
-            Some(depths) => {
-                self.table.commit(e, &classes, &depths);
-                Ok(())
-            }
-            None => Err(EquateFault::Occurs),
-        }
+        let Some(depths) = self.table.deepen(e, &classes) else {
+            return Err(EquateFault::Occurs);
+        };
+        self.table.commit(e, &classes, &depths);
+        Ok(())
     }
 
     /// How many rows and how many equations there are.
@@ -126,9 +124,6 @@ impl<'a, V: Vocabulary> Sheet<'a, V> {
     pub fn resolve(&self, p: u16) -> Result<u16, NoRow>
         ensures { ResolveGives (sheet_of self.now.table.rows self.now.table.equations) p result }
     {
-        match self.table.representative(p) {
-            Some(q) => Ok(q),
-            None => Err(NoRow),
-        }
+        self.table.representative(p).ok_or(NoRow)
     }
 }

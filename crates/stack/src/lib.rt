@@ -2,11 +2,11 @@
 #![tactic(auto)]
 
 mod any;
+mod books;
 mod causes;
-mod lines;
-mod marks;
+mod trees;
 
 pub use any::layered_likeness;
+pub use books::book_likeness;
 pub use causes::StackFault;
-pub use lines::line_stack;
-pub use marks::marks_likeness;
+pub use trees::tree_stack;

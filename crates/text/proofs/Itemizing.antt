@@ -2,8 +2,8 @@
 use Rattle.std.proofs.Common.{◌≡◌, ℕ, ◌+◌, List, [], ◌∷◌, ◌++◌, map, length, drop, Option, refl, ap, ◌∙◌, subst, ap₂, arith, Bor}
 use Rattle.unification.specs.Terms.{Term, Terms, var, app, nil, cons}
 use Rattle.vocabulary.specs.Spellings.{Spells, IsLexicon}
+use Rattle.text.specs.declared.token.Token.{Token}
 use Rattle.text.specs.declared.token.Token.TheVariants.{Word, Variable}
-use Rattle.text.specs.declared.token.Placed.{Placed}
 use Rattle.text.specs.declared.token.SyntaxFault.{SyntaxFault}
 use Rattle.text.specs.declared.items.Item.TheVariants as code
 use Rattle.text.specs.Phrases.{Phrase, Phrases, none, more, bytes, Sound}
@@ -72,7 +72,7 @@ module _ (spellings : ℕ → Option (List ℕ)) where
   no_items text at f ss n l = stand_none l.marks ss (none_left Mark label_mark name_mark text at f l.marks n l.remain) l.stand
 
   -- past a bracket or a comma the same items are left
-  pub item_passes : (text : List ℕ) (at : ℕ) (p : Placed) (ss : List Standing) → Lexed text at p → ((w : Bor (List ℕ)) → p.token ≡ Word w → ⊥) → ((n : ℕ) → p.token ≡ Variable n → ⊥) → ItemsLeft spellings (drop at text) at ss → ItemsLeft spellings (drop p.end text) p.end ss
+  pub item_passes : (text : List ℕ) (at : ℕ) (p : Token × ℕ) (ss : List Standing) → Lexed text at p → ((w : Bor (List ℕ)) → p.0 ≡ Word w → ⊥) → ((n : ℕ) → p.0 ≡ Variable n → ⊥) → ItemsLeft spellings (drop at text) at ss → ItemsLeft spellings (drop p.1 text) p.1 ss
   item_passes text at p ss l m n r = record { marks = r.marks; remain = passes Mark label_mark name_mark text at p r.marks l m n r.remain; stand = r.stand }
 
   first_stands : (m : Mark) (ms : List Mark) (ss : List Standing) → AllStand spellings (m ∷ ms) ss → (a : Standing) × (others : List Standing) × (ss ≡ a ∷ others) × Stands spellings m a × AllStand spellings ms others
@@ -80,7 +80,7 @@ module _ (spellings : ℕ → Option (List ℕ)) where
   first_stands m ms (a ∷ ss) h = (a, ss, refl, h.0, h.1)
 
   -- a variable is the first item that is left
-  pub item_variable : (text : List ℕ) (at : ℕ) (p : Placed) (n : ℕ) (ss : List Standing) → Lexed text at p → p.token ≡ Variable n → ItemsLeft spellings (drop at text) at ss → NextItem spellings text ss (record { item = code.Variable n; place = at; end = p.end })
+  pub item_variable : (text : List ℕ) (at : ℕ) (p : Token × ℕ) (n : ℕ) (ss : List Standing) → Lexed text at p → p.0 ≡ Variable n → ItemsLeft spellings (drop at text) at ss → NextItem spellings text ss (record { item = code.Variable n; place = at; end = p.1 })
   item_variable text at p n ss l e r =
       let h = labels Mark label_mark name_mark text at p n r.marks l e r.remain in
       let f = first_stands (label at n) h.0 ss (subst (λ (ms : List Mark). AllStand spellings ms ss) h.1 r.stand) in
@@ -91,7 +91,7 @@ module _ (spellings : ℕ → Option (List ℕ)) where
       }
 
   -- and so is a word that the lexicon has
-  pub item_word : IsLexicon spellings → (text : List ℕ) (at : ℕ) (p : Placed) (w : Bor (List ℕ)) (v : ℕ) (ss : List Standing) → Lexed text at p → p.token ≡ Word w → Spells spellings v w.now → ItemsLeft spellings (drop at text) at ss → NextItem spellings text ss (record { item = code.Word v; place = at; end = p.end })
+  pub item_word : IsLexicon spellings → (text : List ℕ) (at : ℕ) (p : Token × ℕ) (w : Bor (List ℕ)) (v : ℕ) (ss : List Standing) → Lexed text at p → p.0 ≡ Word w → Spells spellings v w.now → ItemsLeft spellings (drop at text) at ss → NextItem spellings text ss (record { item = code.Word v; place = at; end = p.1 })
   item_word laws text at p w v ss l e s r =
       let h = named Mark label_mark name_mark text at p w r.marks l e r.remain in
       let f = first_stands (name at w.now) h.others ss (subst (λ (ms : List Mark). AllStand spellings ms ss) h.has r.stand) in
@@ -103,7 +103,7 @@ module _ (spellings : ℕ → Option (List ℕ)) where
       }
 
   -- a word that the lexicon lacks is no item
-  pub no_word : (text : List ℕ) (at : ℕ) (p : Placed) (w : Bor (List ℕ)) (ss : List Standing) → Lexed text at p → p.token ≡ Word w → ((v : ℕ) → Spells spellings v w.now → ⊥) → ItemsLeft spellings (drop at text) at ss → ss ≡ []
+  pub no_word : (text : List ℕ) (at : ℕ) (p : Token × ℕ) (w : Bor (List ℕ)) (ss : List Standing) → Lexed text at p → p.0 ≡ Word w → ((v : ℕ) → Spells spellings v w.now → ⊥) → ItemsLeft spellings (drop at text) at ss → ss ≡ []
   no_word text at p w ss l e lacks r =
       let h = named Mark label_mark name_mark text at p w r.marks l e r.remain in
       let f = first_stands (name at w.now) h.others ss (subst (λ (ms : List Mark). AllStand spellings ms ss) h.has r.stand) in

@@ -16,7 +16,7 @@ use Rattle.text.specs.Occurrences.{Occurrence, words, FirstOf, AllWords, FirstWo
 use Rattle.text.specs.Meanings.{Known, Fitting}
 use Rattle.vocabulary.specs.Spellings.{IsLexicon}
 use Rattle.text.specs.Writings.{Spelled, write, Writes, Reads}
-use Rattle.text.specs.Lookups.{Sure, Told}
+use Rattle.text.specs.Lookups.{FirstAt, Sure, WordsRefused}
 use Rattle.text.specs.Verdicts.{Sized, AllShallow, Accepted, Refused, Verdict, Judged}
 use Rattle.text.proofs.Unique.{one_phrase}
 use Rattle.text.proofs.Terms.{all_right, meant, reads_by, fit, exact, spelled_sound, writes_own}
@@ -70,8 +70,8 @@ module _ (P : Occurrence → Type 0) (text : List ℕ) where
   is_text : (p : ℕ) → FirstWord P text p → IsText text
   is_text p a = record { phrase = a.phrase; sound = a.sound; written = a.written }
 
-  first_told : (p : Phrase) → Sound p → bytes p ≡ text → (w : Occurrence) → FirstOf P (words 0 p) w → FirstWord P text w.place
-  first_told p s e w f = record { phrase = p; sound = s; written = e; word = w; first = f; at = refl }
+  first_at : (t : Phrase) → Sound t → bytes t ≡ text → (p : ℕ) → FirstAt P (words 0 t) p → FirstWord P text p
+  first_at t s e p f = record { phrase = t; sound = s; written = e; word = f.word; first = f.first; at = f.at }
 
 -- a text has a byte
 has_byte : (p : Phrase) → Sound p → 0 < length (bytes p)
@@ -177,11 +177,12 @@ module _ (spellings : ℕ → Option (List ℕ)) (arities : List ℕ) (text : Li
   pub grammar_fault : (f : SyntaxFault) (e : TextFault) → e ≡ NoText f.place → Sized text → AllShallow text → StopsAt text f.place → Refused spellings arities text e
   grammar_fault f e is s h stops = subst (Refused spellings arities text) (sym is) (s, h, stops)
 
-  pub unknown_fault : (i : IsText text) (f e : TextFault) → e ≡ f → Sized text → AllShallow text → Told (Known spellings arities) (words 0 i.phrase) UnknownWord f → Refused spellings arities text e
-  unknown_fault i f e same s h t =
-      subst (Refused spellings arities text) (sym (same ∙ t.is)) (s, h, first_told (Known spellings arities) text i.phrase i.sound i.written t.word t.first)
-
-  pub arguments_fault : (i : IsText text) (f : TextFault) → Sized text → AllShallow text → AllByRecursion (Known spellings arities) (words 0 i.phrase) → Told (Fitting spellings arities) (words 0 i.phrase) WrongArguments f → Refused spellings arities text f
-  arguments_fault i f s h known t =
-      let all : AllWords (Known spellings arities) text = record { phrase = i.phrase; sound = i.sound; written = i.written; all = known } in
-      subst (Refused spellings arities text) (sym t.is) (s, h, all, first_told (Fitting spellings arities) text i.phrase i.sound i.written t.word t.first)
+  pub words_fault : (i : IsText text) (f : TextFault) → Sized text → AllShallow text → WordsRefused spellings arities (words 0 i.phrase) f → Refused spellings arities text f
+  words_fault i Empty s h t = absurd t
+  words_fault i TooLong s h t = absurd t
+  words_fault i (TooDeep p) s h t = absurd t
+  words_fault i (NoText p) s h t = absurd t
+  words_fault i (UnknownWord p) s h t = (s, h, first_at (Known spellings arities) text i.phrase i.sound i.written p t)
+  words_fault i (WrongArguments p) s h t =
+      let all : AllWords (Known spellings arities) text = record { phrase = i.phrase; sound = i.sound; written = i.written; all = t.0 } in
+      (s, h, all, first_at (Fitting spellings arities) text i.phrase i.sound i.written p t.1)

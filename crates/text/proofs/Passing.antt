@@ -1,93 +1,151 @@
--- What the loops over the words of a text keep.
-use Rattle.std.proofs.Common.{◌≡◌, ℕ, ◌<◌, ◌≤◌, Bool, true, false, eqb, List, [], ◌∷◌, ◌++◌, length, get_or, drop, MatchBool, Option, sym, refl, ap, ◌∙◌, subst, append_assoc, append-nil, arith, eqb-true}
-use borrow.Author.Tests.{eqb-false}
+-- What the loop over the words of a text keeps.
+use Rattle.std.proofs.Common.{◌≡◌, ℕ, ◌-◌, true, List, [], ◌∷◌, ◌++◌, length, get_or, take, drop, Ok, Err, Option, Result, MatchOption, MatchResult, is_ok, None, Some, sym, refl, ap, ◌∙◌, subst, append_assoc, append-nil, arith, Bor}
 use Rattle.std.proofs.ByRecursion.{All-push, All-weaker}
+use Rattle.std.specs.Option.{option_copied}
+use Rattle.std.specs.Slice.{IsItemAt}
 use Rattle.std.specs.List.{AllByRecursion}
 use Rattle.vocabulary.specs.Spellings.{Spells, IsLexicon}
-use Rattle.text.specs.declared.words.WordAt.{WordAt}
-use Rattle.text.specs.Phrases.{Phrase, count, bytes, Sound}
-use Rattle.text.specs.Occurrences.{Occurrence, words, FirstOf}
+use Rattle.text.specs.declared.causes.TextFault.{TextFault}
+use Rattle.text.specs.declared.causes.TextFault.TheVariants.{WrongArguments}
+use Rattle.text.specs.declared.token.Token.{Token}
+use Rattle.text.specs.declared.token.Token.TheVariants.{Word}
+use Rattle.text.specs.declared.token.SyntaxFault.{SyntaxFault}
+use Rattle.text.specs.Listings.{unlisted, occurs}
+use Rattle.text.specs.Lookups.{FirstAt, Lacking, Arity, Sure, WordsRefused}
 use Rattle.text.specs.Meanings.{Known, Fitting}
-use Rattle.text.specs.Remains.{Remains, occurrence, NextIs}
-use Rattle.text.specs.Lookups.{Lacking, Arity, Sure, Asked, Granted}
-use Rattle.text.specs.declared.demand.Demand.{Demand}
-use Rattle.text.specs.declared.demand.Demand.TheVariants.{ToBeKnown, ToFit}
-use Rattle.text.proofs.Walk.{remains_whole}
+use Rattle.text.specs.Occurrences.{Occurrence, words}
+use Rattle.text.specs.Phrases.{Phrase, Phrases, count, bytes, bracketed, Sound, AllSound}
+use Rattle.text.specs.Tokens.{Ended, Lexed, NoToken, part, name}
+use Rattle.text.proofs.Spelling.{to_end}
+use Rattle.text.proofs.Walk.{Named, WordsLeft, advance, named, none_left, remain_from, words_whole}
 
--- P holds of the words before `at`, and the others are left
-pub record Passed (P : Occurrence → Type 0) (text : List ℕ) (at : ℕ) (ws : List Occurrence) : Type 0 where
-  pub before : List Occurrence
-  pub others : List Occurrence
-  pub split : ws ≡ before ++ others
-  pub good : AllByRecursion P before
-  pub left : Remains (drop at text) at others
-
-pub passed_none : (P : Occurrence → Type 0) (text : List ℕ) (p : Phrase) → Sound p → bytes p ≡ text → Passed P text 0 (words 0 p)
-passed_none P text p s e = record { before = []; others = words 0 p; split = refl; good = tt; left = remains_whole text p s e }
-
-module _ (P : Occurrence → Type 0) (text : List ℕ) (at : ℕ) (ws : List Occurrence) (w : WordAt) (passed : Passed P text at ws) (next : (vs : List Occurrence) → Remains (drop at text) at vs → NextIs text vs w) where
-  abbrev pub now_at : NextIs text passed.others w
-  now_at = next passed.others passed.left
-
-  abbrev pub found : Occurrence
-  found = occurrence w (count now_at.given)
-
-  split_here : ws ≡ passed.before ++ (found ∷ now_at.others)
-  split_here = passed.split ∙ ap (λ l. passed.before ++ l) now_at.has
-
-  pub passed_more : P (found) → Passed P text w.end ws
-  passed_more h = record {
-    before = passed.before ++ found ∷ [];
-    others = now_at.others;
-    split = split_here ∙ sym (append_assoc passed.before (found ∷ []) now_at.others);
-    good = All-push P passed.before (found) passed.good h;
-    left = now_at.left;
-  }
-
-  pub passed_fails : (Q : Occurrence → Type 0) → ((v : Occurrence) → P v → Q v) → (Q (found) → ⊥) → FirstOf Q ws (found)
-  passed_fails Q weaker fails = record {
-    before = passed.before;
-    behind = now_at.others;
-    split = split_here;
-    good = All-weaker P Q weaker passed.before passed.good;
-    fails = fails;
-  }
-
-pub passed_all : (P : Occurrence → Type 0) (text : List ℕ) (at : ℕ) (ws : List Occurrence) → Passed P text at ws → ((vs : List Occurrence) → Remains (drop at text) at vs → vs ≡ []) → AllByRecursion P ws
-passed_all P text at ws passed none_left =
-    subst (AllByRecursion P) (sym (passed.split ∙ ap (λ l. passed.before ++ l) (none_left passed.others passed.left) ∙ append-nil passed.before)) passed.good
+-- so many arguments stand at the front of the bytes
+abbrev pub Counts : List ℕ → ℕ → Type 0
+Counts bytes n = (ps : Phrases) (behind : List ℕ) → AllSound ps → Ended behind → bytes ≡ bracketed ps ++ behind → n ≡ count ps
 
 module _ (spellings : ℕ → Option (List ℕ)) (arities : List ℕ) where
-  pub arity_found : (s : List ℕ) (w a : ℕ) → IsLexicon spellings → Spells spellings w s → w < length arities → get_or arities w 0 ≡ a → Arity spellings arities s a
-  arity_found s w a laws spells has takes = record { number = w; spells = spells; has = has; takes = takes; single = λ v u p q. laws.single v u s p q }
+  -- what the list of arities has at the one word that is spelled so
+  pub arity_by : (s : List ℕ) (w : ℕ) → IsLexicon spellings → Spells spellings w s → (r : Option (Bor ℕ)) → IsItemAt arities w r → MatchOption (option_copied r) (Lacking spellings arities s) (Arity spellings arities s)
+  arity_by s w laws spells None read = λ n has other. omega (arith, read.3, laws.single n w s other spells)
+  arity_by s w laws spells (Some a) read = record { number = w; spells = spells; has = read.3.0; takes = sym (read.4 (omega arith) 0); single = λ v u p q. laws.single v u s p q }
 
-  pub lacking_past : (s : List ℕ) (w : ℕ) → IsLexicon spellings → Spells spellings w s → length arities ≤ w → Lacking spellings arities s
-  lacking_past s w laws spells past n has other = omega (arith, laws.single n w s other spells)
+  -- the refusal is that of the first word that does not fit
+  abbrev pub Misfit : List Occurrence → TextFault → Type 0
+  Misfit ws f = (q : ℕ) × (f ≡ WrongArguments q) × FirstAt (Fitting spellings arities) ws q
 
-  pub lacks : (d : Demand) (w : Occurrence) → Lacking spellings arities w.spelling → Asked spellings arities d w → ⊥
-  lacks ToBeKnown w l k = l k.number k.has k.spells
-  lacks ToFit w l f = l f.number f.has f.spells
+  -- the words before `at` are known, and the others are left; those before fit, or else the first of all that does not fit is told
+  pub record Walked (text : List ℕ) (at : ℕ) (ws : List Occurrence) (fit : Result (Unit {0}) TextFault) : Type 0 where
+    pub before : List Occurrence
+    pub others : List Occurrence
+    pub split : ws ≡ before ++ others
+    pub known : AllByRecursion (Known spellings arities) before
+    pub fits : MatchResult fit (λ _. AllByRecursion (Sure spellings arities) before) (Misfit ws)
+    pub left : WordsLeft (drop at text) at others
 
-  pub known_by : (d : Demand) (w : Occurrence) (a : ℕ) → d ≡ ToBeKnown → Arity spellings arities w.spelling a → Granted spellings arities d w
-  known_by d w a is r =
-      let known : Known spellings arities w = record { number = r.number; spells = r.spells; has = r.has } in
-      subst (λ (x : Demand). Granted spellings arities x w) (sym is) known
+  module _ (text : List ℕ) where
+    pub walked_none : (p : Phrase) → Sound p → bytes p ≡ text → Walked text 0 (words 0 p) (Ok tt)
+    walked_none p s e = record { before = []; others = words 0 p; split = refl; known = tt; fits = tt; left = words_whole text p s e }
 
-  sure_by : (w : Occurrence) (a : ℕ) → Arity spellings arities w.spelling a → a ≡ w.arguments → Sure spellings arities w
-  sure_by w a r e = (record { number = r.number; spells = r.spells; has = r.has; takes = r.takes ∙ e }, r.single)
+    module _ (at : ℕ) (ws : List Occurrence) (fit : Result (Unit {0}) TextFault) (walked : Walked text at ws fit) where
+      pub walked_past : (p : Token × ℕ) → Lexed text at p → ((w : Bor (List ℕ)) → p.0 ≡ Word w → ⊥) → Walked text p.1 ws fit
+      walked_past p l m = record {
+        before = walked.before;
+        others = walked.others;
+        split = walked.split;
+        known = walked.known;
+        fits = walked.fits;
+        left = advance text at p walked.others l m walked.left;
+      }
 
-  misfit_by : (w : Occurrence) (a : ℕ) → Arity spellings arities w.spelling a → (a ≡ w.arguments → ⊥) → Fitting spellings arities w → ⊥
-  misfit_by w a r ne f = ne (sym r.takes ∙ ap (λ n. get_or arities n 0) (r.single r.number f.number r.spells f.spells) ∙ f.takes)
+      -- where no token stands, all words were met
+      met_all : (f : SyntaxFault) → NoToken text at f → ws ≡ walked.before
+      met_all f n =
+          walked.split ∙ ap (λ l. walked.before ++ l) (none_left Occurrence unlisted occurs text at f walked.others n walked.left) ∙ append-nil walked.before
 
-  fits_when : (w : Occurrence) (a n : ℕ) → Arity spellings arities w.spelling a → n ≡ w.arguments → (b : Bool) → eqb a n ≡ b → MatchBool b (Sure spellings arities w) (Fitting spellings arities w → ⊥)
-  fits_when w a n r e true t = sure_by w a r (eqb-true a n t ∙ e)
-  fits_when w a n r e false t = misfit_by w a r (λ h. eqb-false a n t (h ∙ sym e))
+      module _ (p : Token × ℕ) (w : Bor (List ℕ)) (l : Lexed text at p) (is : p.0 ≡ Word w) where
+        abbrev next : Named Occurrence unlisted occurs w.now (drop p.1 text) at walked.others
+        next = named Occurrence unlisted occurs text at p w walked.others l is walked.left
 
-  pub fits_by : (d : Demand) (w : Occurrence) (a n : ℕ) → d ≡ ToFit → Arity spellings arities w.spelling a → n ≡ w.arguments → MatchBool (eqb a n) (Granted spellings arities d w) (Asked spellings arities d w → ⊥)
-  fits_by d w a n is r e =
-      subst (λ (x : Demand). MatchBool (eqb a n) (Granted spellings arities x w) (Asked spellings arities x w → ⊥)) (sym is) (fits_when w a n r e (eqb a n) refl)
+        abbrev found : Occurrence
+        found = occurs at w.now (count next.given)
 
-  -- what was granted is what was asked
-  pub asked_granted : (d : Demand) (w : Occurrence) → Granted spellings arities d w → Asked spellings arities d w
-  asked_granted ToBeKnown w g = g
-  asked_granted ToFit w g = g.0
+        split_here : ws ≡ walked.before ++ (found ∷ next.others)
+        split_here = walked.split ∙ ap (λ l. walked.before ++ l) next.has
+
+        pub unknown_first : Lacking spellings arities w.now → FirstAt (Known spellings arities) ws at
+        unknown_first lacks = record {
+          word = found;
+          first = record { before = walked.before; behind = next.others; split = split_here; good = walked.known; fails = λ k. lacks k.number k.has k.spells };
+          at = refl;
+        }
+
+        module _ (a : ℕ) (arity : Arity spellings arities w.now a) where
+          on_by : (g : Result (Unit {0}) TextFault) → MatchResult g (λ _. AllByRecursion (Sure spellings arities) (walked.before ++ found ∷ [])) (Misfit ws) → Walked text p.1 ws g
+          on_by g fits = record {
+            before = walked.before ++ found ∷ [];
+            others = next.others;
+            split = split_here ∙ sym (append_assoc walked.before (found ∷ []) next.others);
+            known = All-push (Known spellings arities) walked.before found walked.known (record { number = arity.number; spells = arity.spells; has = arity.has });
+            fits = fits;
+            left = remain_from Occurrence unlisted occurs text at p (name w.now) next.others l (ap part is) next.left;
+          }
+
+          counted : (n : ℕ) → Counts (take (length text - p.1) (drop p.1 text)) n → n ≡ count next.given
+          counted n c = c next.given next.behind next.sound next.ended (to_end text p.1 ∙ next.read)
+
+          sure : (n : ℕ) → Counts (take (length text - p.1) (drop p.1 text)) n → a ≡ n → Sure spellings arities found
+          sure n c e = (record { number = arity.number; spells = arity.spells; has = arity.has; takes = arity.takes ∙ e ∙ counted n c }, arity.single)
+
+          misfit : (n : ℕ) → Counts (take (length text - p.1) (drop p.1 text)) n → (a ≡ n → ⊥) → Fitting spellings arities found → ⊥
+          misfit n c ne f =
+              ne (sym arity.takes ∙ ap (λ n. get_or arities n 0) (arity.single arity.number f.number arity.spells f.spells) ∙ f.takes ∙ sym (counted n c))
+
+          -- of the refusals, the first stays
+          pub walked_refused : (is_ok fit ≡ true → ⊥) → Walked text p.1 ws fit
+          walked_refused h = on_by fit (go fit walked.fits h)
+            where
+              go : (g : Result (Unit {0}) TextFault) → MatchResult g (λ _. AllByRecursion (Sure spellings arities) walked.before) (Misfit ws) → (is_ok g ≡ true → ⊥) → MatchResult g (λ _. AllByRecursion (Sure spellings arities) (walked.before ++ found ∷ [])) (Misfit ws)
+              go (Ok x) f h = absurd (h refl)
+              go (Err e) f h = f
+
+          -- the word fits
+          pub walked_fitting : (n : ℕ) → Counts (take (length text - p.1) (drop p.1 text)) n → a ≡ n → Walked text p.1 ws fit
+          walked_fitting n c e = on_by fit (go fit walked.fits)
+            where
+              go : (g : Result (Unit {0}) TextFault) → MatchResult g (λ _. AllByRecursion (Sure spellings arities) walked.before) (Misfit ws) → MatchResult g (λ _. AllByRecursion (Sure spellings arities) (walked.before ++ found ∷ [])) (Misfit ws)
+              go (Ok x) f = All-push (Sure spellings arities) walked.before found f (sure n c e)
+              go (Err e) f = f
+
+          -- it is the first that does not fit
+          pub walked_misfit : is_ok fit ≡ true → (n : ℕ) → Counts (take (length text - p.1) (drop p.1 text)) n → (a ≡ n → ⊥) → Walked text p.1 ws (Err (WrongArguments at))
+          walked_misfit h n c ne = on_by (Err (WrongArguments at)) (
+            at,
+            refl,
+            record {
+              word = found;
+              first = record {
+                before = walked.before;
+                behind = next.others;
+                split = split_here;
+                good = All-weaker (Sure spellings arities) (Fitting spellings arities) (λ o s. s.0) walked.before (go fit walked.fits h);
+                fails = misfit n c ne;
+              };
+              at = refl;
+            },
+          )
+            where
+              go : (g : Result (Unit {0}) TextFault) → MatchResult g (λ _. AllByRecursion (Sure spellings arities) walked.before) (Misfit ws) → is_ok g ≡ true → AllByRecursion (Sure spellings arities) walked.before
+              go (Ok x) f h = f
+              go (Err e) f h = cc
+
+      -- the answer, once all words were met
+      pub walked_all : (f : SyntaxFault) → NoToken text at f → MatchResult fit (λ _. AllByRecursion (Sure spellings arities) ws) (WordsRefused spellings arities ws)
+      walked_all f n = go fit walked.fits
+        where
+          all : ws ≡ walked.before
+          all = met_all f n
+
+          go : (g : Result (Unit {0}) TextFault) → MatchResult g (λ _. AllByRecursion (Sure spellings arities) walked.before) (Misfit ws) → MatchResult g (λ _. AllByRecursion (Sure spellings arities) ws) (WordsRefused spellings arities ws)
+          go (Ok x) h = subst (AllByRecursion (Sure spellings arities)) (sym all) h
+          go (Err e) h =
+              subst (WordsRefused spellings arities ws) (sym h.1) (subst (AllByRecursion (Known spellings arities)) (sym all) walked.known, h.2)

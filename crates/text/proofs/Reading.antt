@@ -3,7 +3,6 @@ use Rattle.std.proofs.Common.{◌≡◌, ℕ, suc, ◌+◌, ◌-◌, ◌<◌, �
 use Rattle.std.proofs.lemmas.Bool.Decides.{nat_tests}
 use Rattle.text.specs.declared.token.Token.{Token}
 use Rattle.text.specs.declared.token.Token.TheVariants.{Word, Open, Close, Comma, Variable}
-use Rattle.text.specs.declared.token.Placed.{Placed}
 use Rattle.text.specs.declared.token.SyntaxFault.{SyntaxFault}
 use Rattle.text.specs.Phrases.{decimal, Phrase, variable, word, none, more, bytes, Sound}
 use Rattle.text.specs.Course.{start, letters, after, stopped, course, at_place, PhraseTo, PhraseStops, ArgumentsTo, ArgumentsStop}
@@ -54,11 +53,11 @@ begins_parts b h = grind (arith, nat_tests)
 begins_opens : (b : ℕ) → begins b ≡ false → opens b ≡ false
 begins_opens b h = grind (arith, nat_tests)
 
-pub lexed_parts : (text : List ℕ) (at : ℕ) (p : Placed) → Lexed text at p → (p.token ≡ Comma → ⊥) → (p.token ≡ Close → ⊥) → Stop parts (drop at text)
-lexed_parts text at p l h k = subst (Stop parts) (sym l.read) (other_parts p.token (drop p.end text) l.fair h k)
+pub lexed_parts : (text : List ℕ) (at : ℕ) (p : Token × ℕ) → Lexed text at p → (p.0 ≡ Comma → ⊥) → (p.0 ≡ Close → ⊥) → Stop parts (drop at text)
+lexed_parts text at p l h k = subst (Stop parts) (sym l.read) (other_parts p.0 (drop p.1 text) l.fair h k)
 
-pub lexed_opens : (text : List ℕ) (at : ℕ) (p : Placed) → Lexed text at p → (p.token ≡ Open → ⊥) → Stop opens (drop at text)
-lexed_opens text at p l h = subst (Stop opens) (sym l.read) (other_opens p.token (drop p.end text) l.fair h)
+pub lexed_opens : (text : List ℕ) (at : ℕ) (p : Token × ℕ) → Lexed text at p → (p.0 ≡ Open → ⊥) → Stop opens (drop at text)
+lexed_opens text at p l h = subst (Stop opens) (sym l.read) (other_opens p.0 (drop p.1 text) l.fair h)
 
 pub none_parts : (text : List ℕ) (at : ℕ) (p : SyntaxFault) → NoToken text at p → Stop parts (drop at text)
 none_parts text at p l = ⊎_elim (λ h. weaker begins parts begins_parts (drop at text) h.1) (λ h. subst (Stop parts) (sym h.1) refl) l.why
@@ -78,9 +77,9 @@ pub record WordTo (text : List ℕ) (at i : ℕ) (w : List ℕ) : Type 0 where
   pub halts : length w < 16 → Stop in_word (drop i text)
   pub read : drop at text ≡ w ++ drop i text
 
-pub word_to : (text : List ℕ) (at : ℕ) (p : Placed) (w : Bor (List ℕ)) → Lexed text at p → p.token ≡ Word w → WordTo text at p.end w.now
+pub word_to : (text : List ℕ) (at : ℕ) (p : Token × ℕ) (w : Bor (List ℕ)) → Lexed text at p → p.0 ≡ Word w → WordTo text at p.1 w.now
 word_to text at p w l e =
-    let rest = drop p.end text in
+    let rest = drop p.1 text in
     let f = subst (λ t. Fair (part t) rest) e l.fair in
     record { past = l.past; within = l.within; is = f.0; halts = f.1; read = l.read ∙ ap (λ t. spell (part t) ++ rest) e }
 
@@ -131,7 +130,7 @@ module _ (text : List ℕ) (at : ℕ) where
   other_start Comma rest n p q = refl
   other_start (Variable v) rest n p q = absurd (q v refl)
 
-  pub phrase_other : (p : Placed) → Lexed text at p → ((w : _) → p.token ≡ Word w → ⊥) → ((v : ℕ) → p.token ≡ Variable v → ⊥) → PhraseStops text at at
+  pub phrase_other : (p : Token × ℕ) → Lexed text at p → ((w : _) → p.0 ≡ Word w → ⊥) → ((v : ℕ) → p.0 ≡ Variable v → ⊥) → PhraseStops text at at
   phrase_other p l h k = record {
     past = omega arith;
     within = omega (arith, l.past, l.within);
@@ -141,22 +140,22 @@ module _ (text : List ℕ) (at : ℕ) where
     more = 97 ∷ [];
     read = refl;
     would = refl;
-    goes = λ n. ap (λ l. course (start n) at l) l.read ∙ other_start p.token (drop p.end text) n h k;
+    goes = λ n. ap (λ l. course (start n) at l) l.read ∙ other_start p.0 (drop p.1 text) n h k;
   }
 
-  pub phrase_variable : (p : Placed) (v : ℕ) → Lexed text at p → p.token ≡ Variable v → PhraseTo text at p.end
+  pub phrase_variable : (p : Token × ℕ) (v : ℕ) → Lexed text at p → p.0 ≡ Variable v → PhraseTo text at p.1
   phrase_variable p v l e =
-      let rest = drop p.end text in
+      let rest = drop p.1 text in
       let read : drop at text ≡ 63 ∷ (decimal v ++ rest) = l.read ∙ ap (λ t. spell (part t) ++ rest) e in
       let fair = subst (λ t. Fair (part t) rest) e l.fair in
-      let long = end_is text (63 ∷ decimal v) at p.end (omega (arith, l.past)) l.within read in
+      let long = end_is text (63 ∷ decimal v) at p.1 (omega (arith, l.past)) l.within read in
       record {
         past = l.past;
         within = l.within;
         phrase = variable v;
         sound = fair.0;
         read = read;
-        goes = λ n. ap (λ l. course (start n) at l) read ∙ goes_decimal v rest n (at + 1) p.end fair.0 fair.1 (omega arith);
+        goes = λ n. ap (λ l. course (start n) at l) read ∙ goes_decimal v rest n (at + 1) p.1 fair.0 fair.1 (omega arith);
       }
 
   module _ (i : ℕ) (w : List ℕ) (named : WordTo text at i w) where
@@ -176,11 +175,11 @@ module _ (text : List ℕ) (at : ℕ) where
       goes = λ n. word_goes n ∙ goes_rest n (16 - length w) i (drop i text) (λ h. named.halts (omega arith)) o;
     }
 
-    module _ (q : Placed) (l : Lexed text i q) (open' : q.token ≡ Open) where
+    module _ (q : Token × ℕ) (l : Lexed text i q) (open' : q.0 ≡ Open) where
       opened : drop i text ≡ 40 ∷ drop (i + 1) text
       opened =
-          let r = l.read ∙ ap (λ t. spell (part t) ++ drop q.end text) open' in
-          let one = end_is text (40 ∷ []) i q.end (omega (arith, l.past)) l.within r in
+          let r = l.read ∙ ap (λ t. spell (part t) ++ drop q.1 text) open' in
+          let one = end_is text (40 ∷ []) i q.1 (omega (arith, l.past)) l.within r in
           r ∙ ap (λ j. 40 ∷ drop j text) one
 
       into : (n : ℕ) → at_place text (start n) at ≡ at_place text (start (suc n)) (i + 1)
@@ -240,11 +239,11 @@ module _ (text : List ℕ) (at : ℕ) where
       goes = λ n. s.goes (suc n) ∙ stops_after n e (drop e text) o;
     }
 
-    module _ (q : Placed) (l : Lexed text e q) where
-      pub arguments_last : q.token ≡ Close → ArgumentsTo text at q.end
+    module _ (q : Token × ℕ) (l : Lexed text e q) where
+      pub arguments_last : q.0 ≡ Close → ArgumentsTo text at q.1
       arguments_last c =
-          let read : drop e text ≡ 41 ∷ drop q.end text = l.read ∙ ap (λ t. spell (part t) ++ drop q.end text) c in
-          let one = end_is text (41 ∷ []) e q.end (omega (arith, l.past)) l.within read in
+          let read : drop e text ≡ 41 ∷ drop q.1 text = l.read ∙ ap (λ t. spell (part t) ++ drop q.1 text) c in
+          let one = end_is text (41 ∷ []) e q.1 (omega (arith, l.past)) l.within read in
           record {
             past = omega (arith, s.past, l.past);
             within = l.within;
@@ -252,14 +251,14 @@ module _ (text : List ℕ) (at : ℕ) where
             others = none;
             sound = (s.sound, tt);
             read = s.read ∙ ap (λ l. bytes s.phrase ++ l) read;
-            goes = λ n. s.goes (suc n) ∙ ap (λ l. course (after (suc n)) e l) read ∙ ap (λ i. course (after n) i (drop q.end text)) (sym one);
+            goes = λ n. s.goes (suc n) ∙ ap (λ l. course (after (suc n)) e l) read ∙ ap (λ i. course (after n) i (drop q.1 text)) (sym one);
           }
 
-      module _ (c : q.token ≡ Comma) where
+      module _ (c : q.0 ≡ Comma) where
         comma : drop e text ≡ 44 ∷ drop (e + 1) text
         comma =
-            let r = l.read ∙ ap (λ t. spell (part t) ++ drop q.end text) c in
-            let one = end_is text (44 ∷ []) e q.end (omega (arith, l.past)) l.within r in
+            let r = l.read ∙ ap (λ t. spell (part t) ++ drop q.1 text) c in
+            let one = end_is text (44 ∷ []) e q.1 (omega (arith, l.past)) l.within r in
             r ∙ ap (λ j. 44 ∷ drop j text) one
 
         again : (n : ℕ) → at_place text (start (suc n)) (at + 1) ≡ at_place text (start (suc n)) (e + 1)
@@ -297,10 +296,7 @@ pub record SoFar (text : List ℕ) (at m : ℕ) : Type 0 where
   pub to : (e : ℕ) → ArgumentsTo text m e → ArgumentsTo text at e
   pub stops : (p : ℕ) → ArgumentsStop text m p → ArgumentsStop text at p
 
-pub none_yet : (text : List ℕ) (at : ℕ) → at < length text → SoFar text at at
-none_yet text at h = record { past = omega arith; within = h; to = λ e s. s; stops = λ p s. s }
-
-pub one_further : (text : List ℕ) (at m e : ℕ) (q : Placed) → SoFar text at m → PhraseTo text (m + 1) e → Lexed text e q → q.token ≡ Comma → SoFar text at e
+pub one_further : (text : List ℕ) (at m e : ℕ) (q : Token × ℕ) → SoFar text at m → PhraseTo text (m + 1) e → Lexed text e q → q.0 ≡ Comma → SoFar text at e
 one_further text at m e q f s l c = record {
   past = omega (arith, f.past, s.past);
   within = omega (arith, l.past, l.within);

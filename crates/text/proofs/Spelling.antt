@@ -1,12 +1,14 @@
 -- What a token's bytes are.
-use Rattle.std.proofs.Common.{◌≡◌, ℕ, zero, suc, ◌+◌, ◌-◌, ◌*◌, ◌/◌, ◌%◌, ◌<◌, ◌≤◌, Bool, true, false, ltb, leb, ◌⊎◌, List, [], ◌∷◌, ◌++◌, length, get_or, take, drop, sym, refl, ap, ◌∙◌, subst, arith, length-drop, take-append-drop, get_or-drop, le-ltb, lt-ltb, leb-true}
-use Rattle.std.proofs.lemmas.List.{take_more, drop_more, drop_all, drop-drop, length-take-le}
+use Rattle.std.proofs.Common.{◌≡◌, ℕ, zero, suc, ◌+◌, ◌-◌, ◌<◌, ◌≤◌, Bool, true, false, cond, ltb, List, [], ◌∷◌, ◌++◌, length, get_or, take, drop, sym, refl, ap, ◌∙◌, subst, arith, length-drop, take-append-drop, lt-ltb, Bor}
+use Rattle.std.proofs.Math.Seq.{take-length}
+use Rattle.std.specs.List.{take_while}
+use Rattle.std.proofs.lemmas.List.Sums.{take_while-cons}
+use Rattle.std.proofs.lemmas.List.{drop_more, drop_all, drop-drop, length-take-le}
 use Rattle.std.proofs.lemmas.Bool.{and_parts, and_from}
 use Rattle.std.proofs.lemmas.Bool.Decides.{nat_tests}
-use Rattle.text.specs.Phrases.{decimal}
 use Rattle.vocabulary.specs.Spellings.{fits, Signs, IsSpelling}
-use Rattle.text.specs.Tokens.{small, in_word, digit, wordy, IsWord, Stop, begins, part, spell, Fair, Lexed}
-use Rattle.text.specs.declared.token.Token.{Token}
+use Rattle.text.specs.Tokens.{small, in_word, wordy, word_rest, IsWord, Stop, Lexed}
+use Rattle.text.specs.declared.token.Token.TheVariants.{Word}
 
 pub stop_at : (f : ℕ → Bool) (text : List ℕ) (i : ℕ) → f (get_or text i 0) ≡ false → Stop f (drop i text)
 stop_at f [] zero h = tt
@@ -17,43 +19,30 @@ stop_at f (b ∷ bs) (suc i) h = stop_at f bs i h
 pub stop_end : (f : ℕ → Bool) (text : List ℕ) (i : ℕ) → length text ≤ i → Stop f (drop i text)
 stop_end f text i h = subst (Stop f) (sym (drop_all i text h)) tt
 
-pub wordy_push : (xs : List ℕ) (b : ℕ) → wordy xs ≡ true → in_word b ≡ true → wordy (xs ++ b ∷ []) ≡ true
-wordy_push [] b h k = and_from (in_word b) true k refl
-wordy_push (x ∷ xs) b h k =
-    let p = and_parts (in_word x) (wordy xs) h in
-    and_from (in_word x) (wordy (xs ++ b ∷ [])) p.0 (wordy_push xs b p.1 k)
+-- a word goes on with the first n of the bytes, k at most
+pub record Goes (k : ℕ) (xs : List ℕ) (n : ℕ) : Type 0 where
+  pub few : n ≤ k
+  pub within : n ≤ length xs
+  pub goes : wordy (take n xs) ≡ true
+  pub stops : n < k → Stop in_word (drop n xs)
 
-pub wordy_more : (text : List ℕ) (a e : ℕ) → a ≤ e → e < length text → wordy (take (e - a) (drop a text)) ≡ true → in_word (get_or text e 0) ≡ true → wordy (take (e + 1 - a) (drop a text)) ≡ true
-wordy_more text a e h l w k =
-    let n : e + 1 - a ≡ e - a + 1 = omega arith in
-    let i : a + (e - a) ≡ e = omega arith in
-    let long : e - a < length (drop a text) = simp length-drop (omega arith) in
-    let at : get_or (drop a text) (e - a) 0 ≡ get_or text e 0 = get_or-drop a text (e - a) 0 ∙ ap (λ j. get_or text j 0) i in
-    let all : take (e + 1 - a) (drop a text) ≡ take (e - a) (drop a text) ++ get_or (drop a text) (e - a) 0 ∷ [] = ap (λ j. take j (drop a text)) n ∙ take_more (drop a text) (e - a) 0 long in
-    ap wordy all ∙ wordy_push (take (e - a) (drop a text)) (get_or (drop a text) (e - a) 0) w (ap in_word at ∙ k)
+pub goes_while : (k : ℕ) (xs : List ℕ) → Goes k xs (length (take_while in_word (take k xs)))
+goes_while zero xs = record { few = omega arith; within = omega arith; goes = refl; stops = λ h. absurd (omega arith) }
+goes_while (suc k) [] = record { few = omega arith; within = omega arith; goes = refl; stops = λ _. tt }
+goes_while (suc k) (b ∷ bs) =
+    let n = length (take_while in_word (take k bs)) in
+    let more = goes_while k bs in
+    rw take_while-cons (elim (in_word b) as (λ v. in_word b ≡ v → Goes (suc k) (b ∷ bs) (length (cond v (b ∷ take_while in_word (take k bs)) []))) [
+      | true ↦ λ h. record {
+        few = omega (arith, more.few);
+        within = omega (arith, more.within);
+        goes = and_from (in_word b) (wordy (take n bs)) h more.goes;
+        stops = λ l. more.stops (omega arith);
+      }
+      | false ↦ λ h. record { few = omega arith; within = omega arith; goes = refl; stops = λ _. h }
+    ] refl)
 
-pub digit_range : (d : ℕ) → digit d ≡ true → (48 ≤ d) × (d ≤ 57)
-digit_range d h =
-    let p = and_parts (leb 48 d) (leb d 57) h in
-    (leb-true 48 d p.0, leb-true d 57 p.1)
-
-pub decimal_one : (d : ℕ) → digit d ≡ true → decimal (d - 48) ≡ d ∷ []
-decimal_one d h =
-    let r = digit_range d h in
-    let lt : ltb (d - 48) 10 ≡ true = lt-ltb (d - 48) 10 (omega arith) in
-    let e : 48 + (d - 48) ≡ d = omega arith in
-    rw lt (ap (λ x. x ∷ []) e)
-
-pub decimal_two : (d e : ℕ) → digit d ≡ true → digit e ≡ true → (d - 48 ≡ 0 → ⊥) → decimal ((d - 48) * 10 + (e - 48)) ≡ d ∷ (e ∷ [])
-decimal_two d e h k nz =
-    let r = digit_range d h in
-    let s = digit_range e k in
-    let ge : ltb ((d - 48) * 10 + (e - 48)) 10 ≡ false = le-ltb ((d - 48) * 10 + (e - 48)) 10 (omega arith) in
-    let x : 48 + ((d - 48) * 10 + (e - 48)) / 10 ≡ d = omega arith in
-    let y : 48 + ((d - 48) * 10 + (e - 48)) % 10 ≡ e = omega arith in
-    rw ge (cc (x, y))
-
--- the next one, two, three bytes
+-- the next byte
 pub one_on : (text : List ℕ) (i b : ℕ) → i < length text → get_or text i 0 ≡ b → drop i text ≡ b ∷ drop (i + 1) text
 one_on text i b h e = drop_more text i 0 h ∙ ap (λ x. x ∷ drop (i + 1) text) e
 
@@ -75,17 +64,25 @@ part_on text at e h =
 pub ranged : (b : ℕ) → 97 ≤ b → b ≤ 122 → small b ≡ true
 ranged b h k = grind (arith, nat_tests)
 
-pub outside : (b : ℕ) → (b < 97) ⊎ (122 < b) → (b ≡ 40 → ⊥) → (b ≡ 41 → ⊥) → (b ≡ 44 → ⊥) → (b ≡ 63 → ⊥) → begins b ≡ false
-outside b h p q r s = grind (arith, nat_tests)
+-- what is lent from a place on
+pub to_end : (text : List ℕ) (i : ℕ) → take (length text - i) (drop i text) ≡ drop i text
+to_end text i = ap (λ n. take n (drop i text)) (sym (length-drop i text)) ∙ take-length (drop i text)
 
-pub lexed_one : (text : List ℕ) (at : ℕ) (tok : Token) (b : ℕ) → at < length text → get_or text at 0 ≡ b → spell (part tok) ≡ b ∷ [] → ((rest : List ℕ) → Fair (part tok) rest) → Lexed text at (record { token = tok; place = at; end = at + 1 })
-lexed_one text at tok b h e s f = record {
-  place = refl;
-  past = omega arith;
-  within = omega arith;
-  read = one_on text at b h e ∙ ap (λ l. l ++ drop (at + 1) text) (sym s);
-  fair = f (drop (at + 1) text);
-}
+-- the word that begins at the place, as long as it can be
+pub lexed_word : (text : List ℕ) (at e : ℕ) (w : Bor (List ℕ)) → at < length text → small (get_or text at 0) ≡ true → e ≡ at + 1 + word_rest (drop (at + 1) text) → w.now ≡ take (e - at) (drop at text) → Lexed text at (Word w, e)
+lexed_word text at e w h s end is =
+    let n = word_rest (drop (at + 1) text) in
+    let g = goes_while 15 (drop (at + 1) text) in
+    let long = length-drop (at + 1) text in
+    let m : n ≡ e - (at + 1) = omega arith in
+    let x : at + 1 + n ≡ e = omega arith in
+    let k = word_is text at e (omega arith) (omega (arith, g.within)) (omega (arith, g.few)) s (ap (λ i. wordy (take i (drop (at + 1) text))) (sym m) ∙ g.goes) in
+    record {
+      past = omega arith;
+      within = omega (arith, g.within);
+      read = part_on text at e (omega arith) ∙ ap (λ l. l ++ drop e text) (sym is);
+      fair = (subst IsWord (sym is) k.0, λ l. subst (Stop in_word) (drop-drop n (at + 1) text ∙ ap (λ i. drop i text) x) (g.stops (omega (arith, ap length is, k.1))));
+    }
 
 -- a spelling, read from its front
 wordy_signs : (s : List ℕ) → wordy s ≡ true → (k : ℕ) → k < length s → in_word (get_or s k 0) ≡ true

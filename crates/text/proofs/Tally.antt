@@ -1,12 +1,12 @@
 -- The arguments of a word, counted by passing over their bytes.
-use Rattle.std.proofs.Common.{◌≡◌, ℕ, zero, suc, ◌+◌, ◌-◌, ◌/◌, ◌%◌, ◌<◌, Bool, true, false, cond, ◌&&◌, eqb, ltb, List, [], ◌∷◌, ◌++◌, length, get_or, drop, sym, refl, ap, ◌∙◌, subst, ⊎_elim, append_assoc, add-one, arith}
+use Rattle.std.proofs.Common.{◌≡◌, ℕ, zero, suc, ◌+◌, ◌-◌, ◌/◌, ◌%◌, ◌<◌, Bool, true, false, cond, ◌&&◌, eqb, ltb, List, [], ◌∷◌, ◌++◌, length, get_or, take, drop, sym, refl, ap, ◌∙◌, subst, ⊎_elim, append_assoc, arith}
 use Rattle.std.proofs.lemmas.List.{at_drop_more}
 use Rattle.std.proofs.lemmas.Bool.{and_parts, and_from, both_ways, cases_lt, lt-ltb, le-ltb, ne_eqb}
 use Rattle.text.proofs.Going.{opens, digit_is}
 use Rattle.std.proofs.lemmas.Bool.Decides.{nat_tests}
 use Rattle.text.specs.Phrases.{decimal, Phrase, Phrases, variable, word, none, more, count, bytes, bracketed, following, Sound, AllSound}
 use Rattle.text.specs.Tokens.{in_word, digit, wordy, Stop, parts, Ended}
-use Rattle.text.proofs.Spelling.{spelling_word}
+use Rattle.text.proofs.Spelling.{one_on, spelling_word, to_end}
 use Rattle.text.proofs.Unique.{heads, tails, word_wordy}
 
 -- With d brackets open inside the list of arguments, and c arguments begun: how many there are.
@@ -73,39 +73,9 @@ pub tally_arguments : (p : Phrase) (ps : Phrases) (k : List ℕ) → Sound p →
 tally_arguments p ps k s r =
     ap (tally 0 1) (append_assoc (bytes p) (following ps) k) ∙ tally_phrase p (following ps ++ k) 0 1 s ∙ tally_following ps k 1 r ∙ omega arith
 
--- What the loop over the bytes does at place i.
-module _ (text : List ℕ) (i d c : ℕ) (lt : i < length text) where
-  here : tally d c (drop i text) ≡ tally d c (get_or text i 0 ∷ drop (i + 1) text)
-  here = at_drop_more (tally d c) text i 0 lt
-
-  at_byte : (b : ℕ) → get_or text i 0 ≡ b → tally d c (drop i text) ≡ tally d c (b ∷ drop (i + 1) text)
-  at_byte b e = here ∙ ap (λ x. tally d c (x ∷ drop (i + 1) text)) e
-
-  pub in_open : get_or text i 0 ≡ 40 → tally (d + 1) c (drop (i + 1) text) ≡ tally d c (drop i text)
-  in_open e = ap (λ n. tally n c (drop (i + 1) text)) (add-one d) ∙ sym (at_byte 40 e)
-
-  pub in_close : get_or text i 0 ≡ 41 → 0 < d → tally (d - 1) c (drop (i + 1) text) ≡ tally d c (drop i text)
-  in_close e some =
-      let q : d ≡ suc (d - 1) = omega arith in
-      sym (ap (λ n. tally n c (drop (i + 1) text)) refl) ∙ sym (ap (λ n. tally n c (41 ∷ drop (i + 1) text)) q) ∙ sym (at_byte 41 e)
-
-  pub closes : get_or text i 0 ≡ 41 → d ≡ 0 → tally d c (drop i text) ≡ c
-  closes e z = at_byte 41 e ∙ ap (λ n. tally n c (41 ∷ drop (i + 1) text)) z
-
-  pub in_comma : get_or text i 0 ≡ 44 → d ≡ 0 → tally d (c + 1) (drop (i + 1) text) ≡ tally d c (drop i text)
-  in_comma e z = ap (λ n. tally n (c + 1) (drop (i + 1) text)) z ∙ sym (ap (λ n. tally n c (44 ∷ drop (i + 1) text)) z) ∙ sym (at_byte 44 e)
-
-  pub in_inner_comma : get_or text i 0 ≡ 44 → 0 < d → tally d c (drop (i + 1) text) ≡ tally d c (drop i text)
-  in_inner_comma e some =
-      let q : d ≡ suc (d - 1) = omega arith in
-      ap (λ n. tally n c (drop (i + 1) text)) q ∙ sym (ap (λ n. tally n c (44 ∷ drop (i + 1) text)) q) ∙ sym (at_byte 44 e)
-
-  pub in_other : (get_or text i 0 ≡ 40 → ⊥) → (get_or text i 0 ≡ 41 → ⊥) → (get_or text i 0 ≡ 44 → ⊥) → tally d c (drop (i + 1) text) ≡ tally d c (drop i text)
-  in_other x y z =
-      let a = ne_eqb (get_or text i 0) 40 x in
-      let b = ne_eqb (get_or text i 0) 41 y in
-      let e = ne_eqb (get_or text i 0) 44 z in
-      sym (here ∙ tally_other (get_or text i 0) d c (drop (i + 1) text) (grind (arith, nat_tests)))
+-- At the `)` that closes the list of arguments, all are counted.
+pub closes : (text : List ℕ) (i d c : ℕ) → i < length text → get_or text i 0 ≡ 41 → d ≡ 0 → tally d c (drop i text) ≡ c
+closes text i d c lt e z = at_drop_more (tally d c) text i 0 lt ∙ (λ k. tally (z k) c (e k ∷ drop (i + 1) text))
 
 pub unopened : (b : ℕ) → (b ≡ 40 → ⊥) → opens b ≡ false
 unopened b h = ne_eqb b 40 h
@@ -120,7 +90,12 @@ no_bracket x [] h e = let z : ◌≡◌ {A = ℕ} 0 1 = cc in omega arith
 no_bracket x (b ∷ behind) h e = both_ways false refl (ap parts (heads 40 b x behind e) ∙ h)
 
 -- With a `(` behind the word, what is counted is what is given.
-pub some_given : (ps : Phrases) (behind rest : List ℕ) → AllSound ps → Ended behind → 40 ∷ rest ≡ bracketed ps ++ behind → tally 0 1 rest ≡ count ps
+some_given : (ps : Phrases) (behind rest : List ℕ) → AllSound ps → Ended behind → 40 ∷ rest ≡ bracketed ps ++ behind → tally 0 1 rest ≡ count ps
 some_given none behind rest s h e = absurd (no_bracket rest behind h e)
 some_given (more p ps) behind rest s h e =
     ap (tally 0 1) (tails 40 40 rest ((bytes p ++ following ps) ++ behind) e) ∙ tally_arguments p ps behind s.0 s.1
+
+-- So it is of bytes that begin with a `(`, from behind it on.
+pub given_inside : (ps : Phrases) (behind bytes : List ℕ) → AllSound ps → Ended behind → 0 < length bytes → get_or bytes 0 0 ≡ 40 → bytes ≡ bracketed ps ++ behind → tally 0 1 (take (length bytes - 1) (drop 1 bytes)) ≡ count ps
+given_inside ps behind bytes s h some first e =
+    ap (tally 0 1) (to_end bytes 1) ∙ some_given ps behind (drop 1 bytes) s h (sym (one_on bytes 0 40 some first) ∙ e)

@@ -5,14 +5,13 @@ use Rattle.std.proofs.lemmas.Bool.{cases_lt}
 use Rattle.std.proofs.lemmas.Bool.Decides.{nat_tests}
 use Rattle.text.specs.declared.token.Token.{Token}
 use Rattle.text.specs.declared.token.Token.TheVariants.{Word, Open, Close, Comma, Variable}
-use Rattle.text.specs.declared.token.Placed.{Placed}
 use Rattle.text.specs.declared.token.SyntaxFault.{SyntaxFault}
 use Rattle.text.specs.Phrases.{decimal, Phrase, Phrases, variable, word, none, more, count, bytes, bracketed, following, Sound, AllSound}
 use Rattle.text.specs.Occurrences.{Occurrence, words}
 use Rattle.text.specs.Tokens.{digit, IsWord, Stop, Ended, begins, Part, name, opening, closing, parting, label, part, spell, Fair, Lexed, NoToken}
-use Rattle.text.specs.Remains.{Left, whole, arguments, left_bytes, LeftSound, open_bytes, OpenSound, Remains, NextIs}
+use Rattle.text.specs.Remains.{Left, whole, arguments, left_bytes, LeftSound, open_bytes, OpenSound}
 use Rattle.text.specs.Listings.{listed, listed_among, left_listed, open_listed, Remain, unlisted, occurs}
-use Rattle.text.proofs.Listing.{words_listed, as_listing, as_words}
+use Rattle.text.proofs.Listing.{words_listed}
 use Rattle.text.proofs.Spelling.{spelling_word}
 use Rattle.text.proofs.Going.{digit_is}
 use Rattle.text.proofs.Reading.{end_is}
@@ -186,13 +185,13 @@ module _ (X : Type 0) (on_label : ℕ → ℕ → List X) (on_name : ℕ → Lis
   looks left i xs r = ahead r.first r.opened left i xs r.sound.0 r.sound.1 r.read r.has
 
   -- a token that stands at the place is the one that comes next
-  pub comes : (text : List ℕ) (at : ℕ) (p : Placed) (xs : List X) → Lexed text at p → Remain X on_label on_name (drop at text) at xs → Then (part p.token) (drop p.end text) at xs
+  pub comes : (text : List ℕ) (at : ℕ) (p : Token × ℕ) (xs : List X) → Lexed text at p → Remain X on_label on_name (drop at text) at xs → Then (part p.0) (drop p.1 text) at xs
   comes text at p xs l r =
       ⊎_elim
-      (λ h. absurd (some_left text at p.end l.past l.within h.0))
+      (λ h. absurd (some_left text at p.1 l.past l.within h.0))
       (λ a.
-      let same = same_part (part p.token) a.token (drop p.end text) a.rest l.fair a.fair (sym l.read ∙ a.read) in
-      subst (λ (q : Part). Then q (drop p.end text) at xs) (sym same.0) (subst (λ (b : List ℕ). Then a.token b at xs) (sym same.1) a.then))
+      let same = same_part (part p.0) a.token (drop p.1 text) a.rest l.fair a.fair (sym l.read ∙ a.read) in
+      subst (λ (q : Part). Then q (drop p.1 text) at xs) (sym same.0) (subst (λ (b : List ℕ). Then a.token b at xs) (sym same.1) a.then))
       (looks (drop at text) at xs r)
 
   -- where no token stands, nothing is left
@@ -208,66 +207,54 @@ module _ (X : Type 0) (on_label : ℕ → ℕ → List X) (on_name : ℕ → Lis
       (looks (drop at text) at xs r)
 
   -- what is left behind a token, by the place where it ends
-  pub remain_from : (text : List ℕ) (at : ℕ) (p : Placed) (q : Part) (xs : List X) → Lexed text at p → part p.token ≡ q → Remain X on_label on_name (drop p.end text) (at + length (spell q)) xs → Remain X on_label on_name (drop p.end text) p.end xs
+  pub remain_from : (text : List ℕ) (at : ℕ) (p : Token × ℕ) (q : Part) (xs : List X) → Lexed text at p → part p.0 ≡ q → Remain X on_label on_name (drop p.1 text) (at + length (spell q)) xs → Remain X on_label on_name (drop p.1 text) p.1 xs
   remain_from text at p q xs l e r =
-      let end = end_is text (spell (part p.token)) at p.end (omega (arith, l.past)) l.within l.read ∙ ap (λ t. at + length (spell t)) e in
-      subst (λ (j : ℕ). Remain X on_label on_name (drop p.end text) j xs) (sym end) r
+      let end = end_is text (spell (part p.0)) at p.1 (omega (arith, l.past)) l.within l.read ∙ ap (λ t. at + length (spell t)) e in
+      subst (λ (j : ℕ). Remain X on_label on_name (drop p.1 text) j xs) (sym end) r
 
   -- past a bracket or a comma, the same is left
-  pub passes : (text : List ℕ) (at : ℕ) (p : Placed) (xs : List X) → Lexed text at p → ((w : Bor (List ℕ)) → p.token ≡ Word w → ⊥) → ((n : ℕ) → p.token ≡ Variable n → ⊥) → Remain X on_label on_name (drop at text) at xs → Remain X on_label on_name (drop p.end text) p.end xs
-  passes text at p xs l m n r = go p.token refl (comes text at p xs l r)
+  pub passes : (text : List ℕ) (at : ℕ) (p : Token × ℕ) (xs : List X) → Lexed text at p → ((w : Bor (List ℕ)) → p.0 ≡ Word w → ⊥) → ((n : ℕ) → p.0 ≡ Variable n → ⊥) → Remain X on_label on_name (drop at text) at xs → Remain X on_label on_name (drop p.1 text) p.1 xs
+  passes text at p xs l m n r = go p.0 refl (comes text at p xs l r)
     where
-      go : (t : Token) → p.token ≡ t → Then (part p.token) (drop p.end text) at xs → Remain X on_label on_name (drop p.end text) p.end xs
+      go : (t : Token) → p.0 ≡ t → Then (part p.0) (drop p.1 text) at xs → Remain X on_label on_name (drop p.1 text) p.1 xs
       go (Word w) e h = absurd (m w e)
-      go Open e h = remain_from text at p opening xs l (ap part e) (subst (λ (t : Token). Then (part t) (drop p.end text) at xs) e h)
-      go Close e h = remain_from text at p closing xs l (ap part e) (subst (λ (t : Token). Then (part t) (drop p.end text) at xs) e h)
-      go Comma e h = remain_from text at p parting xs l (ap part e) (subst (λ (t : Token). Then (part t) (drop p.end text) at xs) e h)
+      go Open e h = remain_from text at p opening xs l (ap part e) (subst (λ (t : Token). Then (part t) (drop p.1 text) at xs) e h)
+      go Close e h = remain_from text at p closing xs l (ap part e) (subst (λ (t : Token). Then (part t) (drop p.1 text) at xs) e h)
+      go Comma e h = remain_from text at p parting xs l (ap part e) (subst (λ (t : Token). Then (part t) (drop p.1 text) at xs) e h)
       go (Variable v) e h = absurd (n v e)
 
   -- a variable is the first of what is left
-  pub labels : (text : List ℕ) (at : ℕ) (p : Placed) (n : ℕ) (xs : List X) → Lexed text at p → p.token ≡ Variable n → Remain X on_label on_name (drop at text) at xs → (others : List X) × (xs ≡ on_label at n ++ others) × Remain X on_label on_name (drop p.end text) p.end others
+  pub labels : (text : List ℕ) (at : ℕ) (p : Token × ℕ) (n : ℕ) (xs : List X) → Lexed text at p → p.0 ≡ Variable n → Remain X on_label on_name (drop at text) at xs → (others : List X) × (xs ≡ on_label at n ++ others) × Remain X on_label on_name (drop p.1 text) p.1 others
   labels text at p n xs l e r =
-      let h : Labelled n (drop p.end text) at xs = subst (λ (t : Token). Then (part t) (drop p.end text) at xs) e (comes text at p xs l r) in
+      let h : Labelled n (drop p.1 text) at xs = subst (λ (t : Token). Then (part t) (drop p.1 text) at xs) e (comes text at p xs l r) in
       (h.others, h.has, remain_from text at p (label n) h.others l (ap part e) h.left)
 
   -- and so is a word
-  pub named : (text : List ℕ) (at : ℕ) (p : Placed) (w : Bor (List ℕ)) (xs : List X) → Lexed text at p → p.token ≡ Word w → Remain X on_label on_name (drop at text) at xs → Named w.now (drop p.end text) at xs
-  named text at p w xs l e r = subst (λ (t : Token). Then (part t) (drop p.end text) at xs) e (comes text at p xs l r)
+  pub named : (text : List ℕ) (at : ℕ) (p : Token × ℕ) (w : Bor (List ℕ)) (xs : List X) → Lexed text at p → p.0 ≡ Word w → Remain X on_label on_name (drop at text) at xs → Named w.now (drop p.1 text) at xs
+  named text at p w xs l e r = subst (λ (t : Token). Then (part t) (drop p.1 text) at xs) e (comes text at p xs l r)
 
 -- The words.
 
-pub remains_whole : (text : List ℕ) (p : Phrase) → Sound p → bytes p ≡ text → Remains text 0 (words 0 p)
-remains_whole text p s e =
-    subst (λ (ws : List Occurrence). Remains text 0 ws) (sym (words_listed 0 p)) (as_words text 0 (listed Occurrence unlisted occurs 0 p) (remain_whole Occurrence unlisted occurs text p s e))
+-- the words ws are those of the bytes that are left from place i on
+abbrev pub WordsLeft : List ℕ → ℕ → List Occurrence → Type 0
+WordsLeft left i ws = Remain Occurrence unlisted occurs left i ws
+
+pub words_whole : (text : List ℕ) (p : Phrase) → Sound p → bytes p ≡ text → WordsLeft text 0 (words 0 p)
+words_whole text p s e =
+    subst (λ (ws : List Occurrence). WordsLeft text 0 ws) (sym (words_listed 0 p)) (remain_whole Occurrence unlisted occurs text p s e)
 
 -- past a token that is no word, the same words are left
-pub advance : (text : List ℕ) (at : ℕ) (p : Placed) (ws : List Occurrence) → Lexed text at p → ((w : Bor (List ℕ)) → p.token ≡ Word w → ⊥) → Remains (drop at text) at ws → Remains (drop p.end text) p.end ws
-advance text at p ws l m r = as_words (drop p.end text) p.end ws (go p.token refl (as_listing (drop at text) at ws r))
+pub advance : (text : List ℕ) (at : ℕ) (p : Token × ℕ) (ws : List Occurrence) → Lexed text at p → ((w : Bor (List ℕ)) → p.0 ≡ Word w → ⊥) → WordsLeft (drop at text) at ws → WordsLeft (drop p.1 text) p.1 ws
+advance text at p ws l m r = go p.0 refl
   where
-    go : (t : Token) → p.token ≡ t → Remain Occurrence unlisted occurs (drop at text) at ws → Remain Occurrence unlisted occurs (drop p.end text) p.end ws
-    go (Word w) e h = absurd (m w e)
-    go Open e h = passes Occurrence unlisted occurs text at p ws l m (λ n f. let z : ◌≡◌ {A = ℕ} 0 1 = cc in omega arith) h
-    go Close e h = passes Occurrence unlisted occurs text at p ws l m (λ n f. let z : ◌≡◌ {A = ℕ} 0 1 = cc in omega arith) h
-    go Comma e h = passes Occurrence unlisted occurs text at p ws l m (λ n f. let z : ◌≡◌ {A = ℕ} 0 1 = cc in omega arith) h
-    go (Variable v) e h =
-        let n = labels Occurrence unlisted occurs text at p v ws l e h in
-        subst (λ (xs : List Occurrence). Remain Occurrence unlisted occurs (drop p.end text) p.end xs) (sym n.1) n.2
+    past : ((n : ℕ) → p.0 ≡ Variable n → ⊥) → WordsLeft (drop p.1 text) p.1 ws
+    past n = passes Occurrence unlisted occurs text at p ws l m n r
 
--- a word is the first of the words that are left
-pub names : (text : List ℕ) (at : ℕ) (p : Placed) (w : Bor (List ℕ)) (ws : List Occurrence) → Lexed text at p → p.token ≡ Word w → Remains (drop at text) at ws → NextIs text ws (record { spelling = w; place = at; end = p.end })
-names text at p w ws l e r =
-    let n = named Occurrence unlisted occurs text at p w ws l e (as_listing (drop at text) at ws r) in
-    record {
-      others = n.others;
-      given = n.given;
-      behind = n.behind;
-      has = n.has;
-      left = as_words (drop p.end text) p.end n.others (remain_from Occurrence unlisted occurs text at p (name w.now) n.others l (ap part e) n.left);
-      sound = n.sound;
-      read = n.read;
-      ended = n.ended;
-    }
-
--- where no token stands, no word is left
-pub no_words : (text : List ℕ) (at : ℕ) (f : SyntaxFault) (ws : List Occurrence) → NoToken text at f → Remains (drop at text) at ws → ws ≡ []
-no_words text at f ws l r = none_left Occurrence unlisted occurs text at f ws l (as_listing (drop at text) at ws r)
+    go : (t : Token) → p.0 ≡ t → WordsLeft (drop p.1 text) p.1 ws
+    go (Word w) e = absurd (m w e)
+    go Open e = past (λ n f. cc)
+    go Close e = past (λ n f. cc)
+    go Comma e = past (λ n f. cc)
+    go (Variable v) e =
+        let n = labels Occurrence unlisted occurs text at p v ws l e r in
+        subst (λ (xs : List Occurrence). WordsLeft (drop p.1 text) p.1 xs) (sym n.1) n.2

@@ -1,11 +1,16 @@
 use Rattle.std.specs.Prelude.{◌≡◌, ℕ, ◌<◌, List, length, Option, slice_index_or}
+use Rattle.std.specs.List.{AllByRecursion}
 use Rattle.vocabulary.specs.Spellings.{Spells}
 use Rattle.text.specs.Meanings.{Known, Fitting}
 use Rattle.text.specs.Occurrences.{Occurrence, FirstOf}
 use Rattle.text.specs.declared.causes.TextFault.{TextFault}
-use Rattle.text.specs.declared.causes.TextFault.TheVariants.{UnknownWord, WrongArguments}
-use Rattle.text.specs.declared.demand.Demand.{Demand}
-use Rattle.text.specs.declared.demand.Demand.TheVariants.{ToBeKnown, ToFit}
+use Rattle.text.specs.declared.causes.TextFault.TheVariants.{Empty, TooLong, TooDeep, NoText, UnknownWord, WrongArguments}
+
+-- The first of the words of which P fails stands at place p.
+pub record FirstAt (P : Occurrence → Type 0) (ws : List Occurrence) (p : ℕ) : Type 0 where
+  pub word : Occurrence
+  pub first : FirstOf P ws word
+  pub at : word.place ≡ p
 
 module _ (spellings : ℕ → Option (List ℕ)) (arities : List ℕ) where
   -- No word of the vocabulary is spelled so.
@@ -28,23 +33,11 @@ module _ (spellings : ℕ → Option (List ℕ)) (arities : List ℕ) where
   abbrev pub Sure : Occurrence → Type 0
   Sure w = Fitting spellings arities w × Single w.spelling
 
-  -- What is asked of a word.
-  abbrev pub Asked : Demand → Occurrence → Type 0
-  Asked ToBeKnown w = Known spellings arities w
-  Asked ToFit w = Fitting spellings arities w
-
-  -- What is known of a word that was not refused.
-  abbrev pub Granted : Demand → Occurrence → Type 0
-  Granted ToBeKnown w = Known spellings arities w
-  Granted ToFit w = Sure w
-
--- How a word is refused.
-abbrev pub cause : Demand → ℕ → TextFault
-cause ToBeKnown p = UnknownWord p
-cause ToFit p = WrongArguments p
-
--- The fault is this one, at the first word of which P fails.
-pub record Told (P : Occurrence → Type 0) (ws : List Occurrence) (c : ℕ → TextFault) (f : TextFault) : Type 0 where
-  pub word : Occurrence
-  pub first : FirstOf P ws word
-  pub is : f ≡ c word.place
+  -- How a text with these words is refused for one of them: the first that is not known, or where each is known, the first that does not fit.
+  abbrev pub WordsRefused : List Occurrence → TextFault → Type 0
+  WordsRefused ws Empty = ⊥
+  WordsRefused ws TooLong = ⊥
+  WordsRefused ws (TooDeep p) = ⊥
+  WordsRefused ws (NoText p) = ⊥
+  WordsRefused ws (UnknownWord p) = FirstAt (Known spellings arities) ws p
+  WordsRefused ws (WrongArguments p) = AllByRecursion (Known spellings arities) ws × FirstAt (Fitting spellings arities) ws p

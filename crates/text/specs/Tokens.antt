@@ -1,10 +1,10 @@
-use Rattle.std.specs.Prelude.{◌≡◌, ℕ, ◌+◌, ◌<◌, ◌≤◌, Bool, true, false, ◌&&◌, ◌||◌, ◌⊎◌, List, [], ◌∷◌, ◌++◌, length, drop, ◌==◌, nat_le}
+use Rattle.std.specs.Prelude.{◌≡◌, ℕ, ◌+◌, ◌<◌, ◌≤◌, Bool, true, false, ◌&&◌, ◌||◌, ◌⊎◌, List, [], ◌∷◌, ◌++◌, length, take, drop, ◌==◌, nat_le}
+use Rattle.std.specs.List.{take_while}
 use Rattle.vocabulary.specs.Spellings.{fits}
 use Rattle.text.specs.Limits.{longest_word, labels}
 use Rattle.text.specs.Phrases.{decimal}
 use Rattle.text.specs.declared.token.Token.{Token}
 use Rattle.text.specs.declared.token.Token.TheVariants.{Word, Open, Close, Comma, Variable}
-use Rattle.text.specs.declared.token.Placed.{Placed}
 use Rattle.text.specs.declared.token.SyntaxFault.{SyntaxFault}
 
 -- What a word begins with, what it goes on with, and a digit.
@@ -21,6 +21,10 @@ digit b = nat_le 48 b && nat_le b 57
 abbrev pub wordy : List ℕ → Bool
 wordy [] = true
 wordy (b ∷ bs) = in_word b && wordy bs
+
+-- How many of the bytes a word goes on with, 15 at most.
+abbrev pub word_rest : List ℕ → ℕ
+word_rest bs = length (take_while in_word (take 15 bs))
 
 -- A spelling, read from its front.
 abbrev pub IsWord : List ℕ → Type 0
@@ -71,13 +75,12 @@ Fair closing rest = Unit {0}
 Fair parting rest = Unit {0}
 Fair (label n) rest = (n < labels) × (0 < n → n < 10 → Stop digit rest)
 
--- The token stands at the place.
-pub record Lexed (text : List ℕ) (at : ℕ) (p : Placed) : Type 0 where
-  pub place : p.place ≡ at
-  pub past : at < p.end
-  pub within : p.end ≤ length text
-  pub read : drop at text ≡ spell (part p.token) ++ drop p.end text
-  pub fair : Fair (part p.token) (drop p.end text)
+-- The token stands at the place, up to where it ends.
+pub record Lexed (text : List ℕ) (at : ℕ) (t : Token × ℕ) : Type 0 where
+  pub past : at < t.1
+  pub within : t.1 ≤ length text
+  pub read : drop at text ≡ spell (part t.0) ++ drop t.1 text
+  pub fair : Fair (part t.0) (drop t.1 text)
 
 -- A byte that a token begins with.
 abbrev pub begins : ℕ → Bool

@@ -1,10 +1,11 @@
 ghost use Rattle.text.specs.Faults.{text_refusal};
 ghost use Rattle.text.specs.Sentences.{says};
 ghost use Rattle.text.specs.declared.causes.TextFault.TheVariants.{NoText};
-ghost use Rattle.std.specs.Prelude.{◌≡◌};
+ghost use Rattle.std.specs.Prelude.{◌≡◌, Some};
 
 use crate::token::SyntaxFault;
 use fault::{Fault, Layer};
+use std::fmt;
 
 /// Why a text was refused, with the place: a byte, counted from 0.
 #[derive(Clone, Copy, PartialEq, Eq, Debug)]
@@ -41,19 +42,21 @@ impl TextFault {
             place,
         }
     }
+}
 
-    /// What the fault says to a reader who is shown its place.
-    pub fn sentence(self) -> &'static str
-        ensures { result.now ≡ says self }
-    {
-        match self {
+impl fmt::Display for TextFault {
+    ghost output = { λ f. Some (says f) };
+
+    /// Writes what the fault says to a reader who is shown its place.
+    fn fmt<W: fmt::Write>(&self, f: &mut fmt::Formatter<W>) -> fmt::Result {
+        f.write_str(match self {
             TextFault::Empty => "the text is empty",
             TextFault::TooLong => "the text has more than 4096 bytes",
             TextFault::TooDeep(_) => "more than 31 brackets are open with this one",
             TextFault::NoText(_) => "no text can go on so",
             TextFault::UnknownWord(_) => "there is no such word",
             TextFault::WrongArguments(_) => "the word takes another number of arguments",
-        }
+        })
     }
 }
 

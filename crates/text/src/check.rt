@@ -1,17 +1,15 @@
 ghost use Rattle.text.specs.Verdicts.{Judged};
 
-use crate::brackets::too_deep;
 use crate::causes::TextFault;
-use crate::demand::Demand;
-use crate::lookup::check_words;
-use crate::reader::check_grammar;
+use crate::signature::Signature;
+use crate::source::Source;
 use vocabulary::Lexicon;
 
 /// The most bytes of a text.
 const LONGEST_TEXT: usize = 4096;
 
 /// Whether the bytes are the text of a term over the words of the lexicon, of which those numbered below the
-/// number of arities are the vocabulary's. The checks run in the order of their numbers, each over the whole text.
+/// number of arities are the vocabulary's. Of the refusals that fit, the one with the lowest number is told.
 pub fn check_text<L: Lexicon>(text: &[u8], lexicon: &L, arities: &[u8]) -> Result<(), TextFault>
     ensures { Judged (L.Lexicon.spellings lexicon.now) arities.now text.now result }
 {
@@ -21,10 +19,10 @@ pub fn check_text<L: Lexicon>(text: &[u8], lexicon: &L, arities: &[u8]) -> Resul
     if text.len() > LONGEST_TEXT {
         return Err(TextFault::TooLong);
     }
-    if let Some(place) = too_deep(text) {
+    let source = Source { bytes: text };
+    if let Some(place) = source.too_deep() {
         return Err(TextFault::TooDeep(place as u32));
     }
-    check_grammar(text)?;
-    check_words(text, lexicon, arities, Demand::ToBeKnown)?;
-    check_words(text, lexicon, arities, Demand::ToFit)
+    source.check_grammar()?;
+    source.check_words(&Signature { lexicon, arities })
 }

@@ -1,108 +1,84 @@
-ghost use Rattle.std.specs.Prelude.{◌≡◌, ◌+◌, ◌-◌, ◌<◌, ◌≤◌, true, length, take, drop, MatchResult, slice_index};
-ghost use Rattle.text.specs.Limits.{longest_text, longest_word};
-ghost use Rattle.text.specs.Tokens.{Lexed, NoToken, Stop, digit, in_word, wordy};
+ghost use Rattle.std.specs.Prelude.{◌≡◌, ◌+◌, ◌<◌, ◌≤◌, ◌∷◌, length, drop, MatchOption, MatchResult, slice_index};
+ghost use Rattle.text.specs.Tokens.{Lexed, NoToken, Stop, digit, in_word, word_rest};
 
-use crate::token::{Placed, SyntaxFault, Token};
+use crate::source::Source;
+use crate::token::{SyntaxFault, Token};
 use vocabulary::LONGEST_SPELLING;
-
-/// The first digit that no other follows.
-const ZERO: u8 = 0;
-
-/// The fault at the place.
-pub fn stray(place: usize) -> SyntaxFault
-    requires { place ≤ longest_text }
-    ensures { result.place ≡ place }
-{
-    SyntaxFault {
-        place: place as u32,
-    }
-}
-
-/// Whether the byte is a digit.
-fn is_digit(byte: u8) -> bool
-    ensures { result ≡ digit byte }
-{
-    byte >= b'0' && byte <= b'9'
-}
 
 /// Whether a word may go on with the byte.
 fn goes_on(byte: u8) -> bool
     ensures { result ≡ in_word byte }
 {
-    byte >= b'a' && byte <= b'z' || is_digit(byte) || byte == b'-'
+    matches!(byte, b'a'..=b'z' | b'0'..=b'9' | b'-')
 }
 
-/// Where the word that begins at the place ends: after 16 characters at most.
-fn word_end(text: &[u8], at: usize) -> usize
-    requires { at < length text.now }
-    ensures past { at < result }
-    ensures within { result ≤ length text.now }
-    ensures few { result ≤ at + longest_word }
-    ensures wordy { wordy (take (result - (at + 1)) (drop (at + 1) text.now)) ≡ true }
-    ensures stops { result < at + longest_word → Stop in_word (drop result text.now) }
+/// How many of the bytes a word goes on with: 15 at most.
+fn word_rest(bytes: &[u8]) -> usize
+    ensures is { result ≡ word_rest bytes.now }
+    ensures within { result ≤ length bytes.now }
 {
-    let mut end = at + 1;
-    while end < text.len() && end - at < LONGEST_SPELLING && goes_on(text[end]) {
-        end += 1;
-    }
-    end
+    bytes
+        .iter()
+        .take(LONGEST_SPELLING - 1)
+        .take_while(|byte| goes_on(**byte))
+        .count()
 }
 
-/// The variable whose `?` stands at the place.
-fn lex_variable<'a>(text: &'a [u8], at: usize) -> Result<Placed<'a>, SyntaxFault>
-    requires within { at < length text.now }
-    requires short { length text.now ≤ longest_text }
-    requires mark { slice_index text.now at ≡ 63 }
-    ensures { MatchResult result (Lexed text.now at) (NoToken text.now at) }
-{
-    let one = at + 1;
-    if one >= text.len() || !is_digit(text[one]) {
-        return Err(stray(one));
-    }
-    let tens = text[one] - b'0';
-    let two = one + 1;
-    if tens == ZERO || two >= text.len() || !is_digit(text[two]) {
-        return Ok(Placed {
-            token: Token::Variable(tens),
-            place: at,
-            end: two,
-        });
-    }
-    let label = tens * 10 + (text[two] - b'0');
-    Ok(Placed {
-        token: Token::Variable(label),
-        place: at,
-        end: two + 1,
-    })
-}
-
-/// The token that begins at the place, as long as it can be.
-pub fn lex<'a>(text: &'a [u8], at: usize) -> Result<Placed<'a>, SyntaxFault>
-    requires within { at ≤ length text.now }
-    requires short { length text.now ≤ longest_text }
-    ensures { MatchResult result (Lexed text.now at) (NoToken text.now at) }
-{
-    if at >= text.len() {
-        return Err(stray(at));
-    }
-    let token = match text[at] {
-        b'(' => Token::Open,
-        b')' => Token::Close,
-        b',' => Token::Comma,
-        b'?' => return lex_variable(text, at),
-        b'a'..=b'z' => {
-            let end = word_end(text, at);
-            return Ok(Placed {
-                token: Token::Word(&text[at..end]),
-                place: at,
-                end,
-            });
+impl<'a> Source<'a> {
+    /// The fault at the place.
+    pub(crate) fn stray(&self, place: usize) -> SyntaxFault
+        requires { place ≤ length self.now.bytes.now }
+        ensures { result.place ≡ place }
+    {
+        SyntaxFault {
+            place: place as u32,
         }
-        _ => return Err(stray(at)),
-    };
-    Ok(Placed {
-        token,
-        place: at,
-        end: at + 1,
-    })
+    }
+
+    /// The value of the digit that stands at the place, if one does.
+    fn digit(&self, at: usize) -> Option<u8>
+        ensures { MatchOption result
+            (Stop digit (drop at self.now.bytes.now))
+            (λ d. (d < 10) × (at < length self.now.bytes.now) × (drop at self.now.bytes.now ≡ (48 + d) ∷ drop (at + 1) self.now.bytes.now)) }
+    {
+        let byte = *self.bytes.get(at)?;
+        if byte.is_ascii_digit() {
+            Some(byte - b'0')
+        } else {
+            None
+        }
+    }
+
+    /// The variable whose `?` stands at the place, and where it ends.
+    fn lex_variable(&self, at: usize) -> Result<(Token<'a>, usize), SyntaxFault>
+        requires within { at < length self.now.bytes.now }
+        requires mark { slice_index self.now.bytes.now at ≡ 63 }
+        ensures { MatchResult result (Lexed self.now.bytes.now at) (NoToken self.now.bytes.now at) }
+    {
+        let tens = self.digit(at + 1).ok_or(self.stray(at + 1))?;
+        match self.digit(at + 2) {
+            // no digit follows a leading zero
+            Some(units) if tens > 0 => Ok((Token::Variable(tens * 10 + units), at + 3)),
+            _ => Ok((Token::Variable(tens), at + 2)),
+        }
+    }
+
+    /// The token that begins at the place, as long as it can be, and where it ends.
+    pub(crate) fn lex(&self, at: usize) -> Result<(Token<'a>, usize), SyntaxFault>
+        requires { at ≤ length self.now.bytes.now }
+        ensures { MatchResult result (Lexed self.now.bytes.now at) (NoToken self.now.bytes.now at) }
+    {
+        let first = *self.bytes.get(at).ok_or(self.stray(at))?;
+        match first {
+            b'(' => Ok((Token::Open, at + 1)),
+            b')' => Ok((Token::Close, at + 1)),
+            b',' => Ok((Token::Comma, at + 1)),
+            b'?' => self.lex_variable(at),
+            b'a'..=b'z' => {
+                let end = at + 1 + word_rest(&self.bytes[at + 1..]);
+                Ok((Token::Word(&self.bytes[at..end]), end))
+            }
+            _ => Err(self.stray(at)),
+        }
+    }
 }

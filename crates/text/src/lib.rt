@@ -4,14 +4,16 @@
 mod brackets;
 mod causes;
 mod check;
-mod demand;
 mod items;
 mod lexer;
-mod lookup;
 mod reader;
+mod signature;
+mod source;
 mod token;
 mod words;
 
+pub use brackets::DEEPEST;
 pub use causes::TextFault;
 pub use check::check_text;
-pub use items::{Item, ItemAt, next_item};
+pub use items::{Item, ItemAt};
+pub use source::Source;

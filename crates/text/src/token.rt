@@ -1,5 +1,5 @@
 /// A part of a text.
-#[derive(Clone, Copy)]
+#[derive(Clone, Copy, PartialEq, Eq, Debug)]
 pub enum Token<'a> {
     /// A word, by its characters in the text.
     Word(&'a [u8]),
@@ -11,14 +11,6 @@ pub enum Token<'a> {
     Comma,
     /// `?` and a label.
     Variable(u8),
-}
-
-/// A token, and where it stands: from `place` up to `end`.
-#[derive(Clone, Copy)]
-pub struct Placed<'a> {
-    pub token: Token<'a>,
-    pub place: usize,
-    pub end: usize,
 }
 
 /// The byte, or the end, with which the text cannot go on.

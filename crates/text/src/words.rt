@@ -1,72 +1,58 @@
-ghost use Rattle.std.specs.Prelude.{◌≡◌, ℕ, ◌<◌, ◌≤◌, List, [], ◌++◌, length, drop, MatchOption};
-ghost use Rattle.text.specs.Limits.{longest_text};
-ghost use Rattle.text.specs.Occurrences.{Occurrence};
-ghost use Rattle.text.specs.Phrases.{AllSound, Phrases, bracketed, count};
-ghost use Rattle.text.specs.Remains.{NextIs, Remains};
+ghost use Rattle.std.specs.Prelude.{◌≡◌, ℕ, ◌≤◌, List, ◌++◌, length, drop, MatchResult};
+ghost use Rattle.std.specs.List.{AllByRecursion};
+ghost use Rattle.text.specs.Lookups.{Sure, WordsRefused};
+ghost use Rattle.text.specs.Occurrences.{words};
+ghost use Rattle.text.specs.Phrases.{AllSound, Phrase, Phrases, Sound, bracketed, bytes, count};
 ghost use Rattle.text.specs.Tokens.{Ended};
 
-use crate::lexer::lex;
+use crate::causes::TextFault;
+use crate::signature::Signature;
+use crate::source::Source;
 use crate::token::Token;
+use vocabulary::Lexicon;
 
-/// A word of a text, and where it stands: from `place` up to `end`.
-#[derive(Clone, Copy)]
-pub struct WordAt<'a> {
-    pub spelling: &'a [u8],
-    pub place: usize,
-    pub end: usize,
-}
-
-/// The first word from the place on, where a token begins or the text ends.
-pub fn next_word<'a>(text: &'a [u8], from: usize) -> Option<WordAt<'a>>
-    requires within { from ≤ length text.now }
-    requires short { length text.now ≤ longest_text }
-    ensures moves { MatchOption result (from ≤ length text.now) (λ w. (from ≤ w.place) × (w.place < w.end) × (w.end ≤ length text.now)) }
-    ensures finds { (ws : List Occurrence) → Remains (drop from text.now) from ws → MatchOption result (ws ≡ []) (NextIs text.now ws) }
+/// How many arguments the word has that these bytes follow: it passes over the bytes of the arguments, and counts the commas between them.
+fn count_arguments(bytes: &[u8]) -> usize
+    ensures { (ps : Phrases) (behind : List ℕ) → AllSound ps → Ended behind → bytes.now ≡ bracketed ps ++ behind → result ≡ count ps }
 {
-    let mut at = from;
-    loop {
-        match lex(text, at) {
-            Ok(part) => match part.token {
-                Token::Word(spelling) => {
-                    return Some(WordAt {
-                        spelling,
-                        place: at,
-                        end: part.end,
-                    });
-                }
-                _ => at = part.end,
-            },
-            Err(_) => return None,
-        }
-    }
-}
-
-/// How many arguments the word has that ends at the place: it passes over their bytes, and counts the commas between them.
-pub fn count_arguments(text: &[u8], end: usize) -> usize
-    requires { end ≤ length text.now }
-    ensures { (ps : Phrases) (behind : List ℕ) → AllSound ps → Ended behind → drop end text.now ≡ bracketed ps ++ behind → result ≡ count ps }
-{
-    if end >= text.len() || text[end] != b'(' {
+    let [b'(', inside @ ..] = bytes else {
         return 0;
-    }
-    let mut arguments: usize = 1;
-    let mut inner: usize = 0;
-    for i in end + 1..text.len() {
-        match text[i] {
-            b'(' => inner += 1,
-            b')' => {
-                if inner == 0 {
-                    return arguments;
-                }
-                inner -= 1;
-            }
-            b',' => {
-                if inner == 0 {
-                    arguments += 1;
-                }
-            }
+    };
+    let mut arguments = 1;
+    let mut open: usize = 0;
+    for byte in inside {
+        match *byte {
+            b'(' => open += 1,
+            b')' if open == 0 => return arguments,
+            b')' => open -= 1,
+            b',' if open == 0 => arguments += 1,
             _ => {}
         }
     }
     arguments
+}
+
+impl Source<'_> {
+    /// Refuses the first word that is not known, or else the first that has more or fewer arguments than it takes.
+    pub(crate) fn check_words<L: Lexicon>(&self, signature: &Signature<L>) -> Result<(), TextFault>
+        ensures { (p : Phrase) → Sound p → bytes p ≡ self.now.bytes.now → MatchResult result
+            (λ _. AllByRecursion (Sure (L.Lexicon.spellings signature.now.lexicon.now) signature.now.arities.now) (words 0 p))
+            (WordsRefused (L.Lexicon.spellings signature.now.lexicon.now) signature.now.arities.now (words 0 p)) }
+    {
+        // a word that does not fit is told only once all are known
+        let mut fit = Ok(());
+        let mut at = 0;
+        while let Ok((token, end)) = self.lex(at) {
+            if let Token::Word(spelling) = token {
+                let Some(arity) = signature.arity_of(spelling) else {
+                    return Err(TextFault::UnknownWord(at as u32));
+                };
+                if fit.is_ok() && usize::from(arity) != count_arguments(&self.bytes[end..]) {
+                    fit = Err(TextFault::WrongArguments(at as u32));
+                }
+            }
+            at = end;
+        }
+        fit
+    }
 }

@@ -1,5 +1,7 @@
 -- The six letters are a lexicon.
-use Rattle.std.proofs.Common.{◌≡◌, ℕ, zero, suc, ◌+◌, ◌-◌, ◌<◌, ◌≤◌, true, false, ltb, List, [], ◌∷◌, length, get_or, Some, None, sym, refl, ap, ◌∙◌, subst, ⊎_elim, arith}
+use Rattle.std.proofs.Common.{◌≡◌, ℕ, zero, suc, ◌+◌, ◌-◌, ◌<◌, ◌≤◌, true, false, ltb, List, [], ◌∷◌, length, get_or, Some, None, Option, codes, slice_range, sym, refl, ap, ◌∙◌, subst, ⊎_elim, arith, Bor}
+use Rattle.std.specs.Option.{option_map}
+use Rattle.std.specs.Slice.{IsGetRangeResult}
 use Rattle.std.proofs.lemmas.Bool.{cases_lt, lt-ltb, le-ltb}
 use Rattle.std.proofs.lemmas.Bool.Decides.{nat_tests}
 use Rattle.vocabulary.specs.Spellings.{fits, IsSpelling, Spells, IsLexicon}
@@ -43,3 +45,20 @@ spells_letter (c ∷ []) l a b =
     let e : 97 + (c - 97) ≡ c = omega arith in
     record { written = (97 + (c - 97)) ∷ []; has = letter (c - 97) (omega arith); same = ap (λ x. x ∷ []) e }
 spells_letter (c ∷ d ∷ s) l a b = absurd (omega arith)
+
+-- each letter is a part of the six
+abbrev six : List ℕ
+six = codes "abcdef"
+
+one_of_six : (w : ℕ) → w + 1 ≤ 6 → slice_range six w (w + 1) ≡ (97 + w) ∷ []
+one_of_six zero h = refl
+one_of_six (suc zero) h = refl
+one_of_six (suc (suc zero)) h = refl
+one_of_six (suc (suc (suc zero))) h = refl
+one_of_six (suc (suc (suc (suc zero)))) h = refl
+one_of_six (suc (suc (suc (suc (suc zero))))) h = refl
+one_of_six (suc (suc (suc (suc (suc (suc w)))))) h = absurd (omega arith)
+
+pub part_letters : (w : ℕ) (r : Option (Bor (List ℕ))) → IsGetRangeResult six w (w + 1) r → option_map (λ (x : Bor (List ℕ)). x.now) r ≡ letters w
+part_letters w None h = ⊎_elim (λ a. absurd (omega arith)) (λ b. sym (no_letter w (omega (arith, b)))) h.0
+part_letters w (Some x) h = ap Some (h.0.2 ∙ one_of_six w h.0.1) ∙ sym (letter w (omega (arith, h.0.1)))

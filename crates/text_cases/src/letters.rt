@@ -2,6 +2,9 @@ ghost use Rattle.text_cases.specs.Letters.{letters};
 
 use vocabulary::Lexicon;
 
+/// The spellings, each at the number of its word.
+const LETTERS: &[u8] = b"abcdef";
+
 /// A lexicon of six words, numbered 0 to 5 and spelled `a` to `f`.
 pub struct Letters;
 
@@ -9,22 +12,14 @@ impl Lexicon for Letters {
     ghost spellings = { λ _. letters };
 
     fn spelling(&self, word: u16) -> Option<&[u8]> {
-        match word {
-            0 => Some(b"a"),
-            1 => Some(b"b"),
-            2 => Some(b"c"),
-            3 => Some(b"d"),
-            4 => Some(b"e"),
-            5 => Some(b"f"),
-            _ => None,
-        }
+        let at = usize::from(word);
+        LETTERS.get(at..at + 1)
     }
 
     fn word(&self, spelling: &[u8]) -> Option<u16> {
-        if spelling.len() == 1 && spelling[0] >= b'a' && spelling[0] <= b'f' {
-            Some((spelling[0] - b'a') as u16)
-        } else {
-            None
+        match spelling {
+            [letter @ b'a'..=b'f'] => Some(u16::from(letter - b'a')),
+            _ => None,
         }
     }
 }

@@ -1,5 +1,6 @@
 use crate::letters::Letters;
 use fault::{Fault, Layer};
+use std::test::Fail;
 use text::{TextFault, check_text};
 
 /// The arities of a, b, c and d; e and f are spelled, and no words of the vocabulary.
@@ -116,4 +117,12 @@ fn told(rt: HostRuntime) {
             place: 0,
         }
     );
+}
+
+#[test]
+fn printed(rt: HostRuntime) -> Result<(), Fail> {
+    let fault = TextFault::UnknownWord(7);
+    let told = format!(in rt.alloc(); "{fault}")?;
+    assert_eq!(rt; told.as_str(), "there is no such word");
+    Ok(())
 }

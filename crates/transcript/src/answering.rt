@@ -6,30 +6,27 @@ use sheet::{Call, SheetFault, replay};
 use std::alloc::{AllocError, Global};
 use vocabulary::{Lexicon, Vocabulary};
 
-/// The lines of a script, parted by line ends; an empty last line is none.
-pub fn lines_of<'t>(heap: Global, script: &'t [u8]) -> Result<Vec<Line<'t>>, AllocError> {
+/// The lines of a script, parted by line ends; an empty last line is none. Nothing stands for a line that asks for nothing.
+pub fn lines_of<'t>(
+    heap: Global,
+    script: &'t [u8],
+) -> Result<Vec<Option<Line<'t>>>, AllocError> {
     let mut lines = Vec::new(heap);
-    let mut from = 0;
-    for at in 0..script.len() {
-        if script[at] == b'\n' && from <= at {
-            lines.push(parse_line(&script[from..at]))?;
-            from = at + 1;
-        }
-    }
-    if from < script.len() {
-        lines.push(parse_line(&script[from..script.len()]))?;
+    for line in script.split_inclusive(|b| *b == b'\n') {
+        lines.push(parse_line(line.strip_suffix(b"\n").unwrap_or(line)))?;
     }
     Ok(lines)
 }
 
 /// The rows that each line gives, none but for a line that composes.
-fn row_fields(heap: Global, lines: &[Line]) -> Result<Vec<Vec<u16>>, AllocError> {
+fn row_fields(heap: Global, lines: &[Option<Line>]) -> Result<Vec<Vec<u16>>, AllocError> {
     let mut all = Vec::new(heap);
     for line in lines {
-        match line {
-            Line::Compose(_, fields) => all.push(numbers(heap, fields)?)?,
-            _ => all.push(Vec::new(heap))?,
-        }
+        let rows = match line {
+            Some(Line::Compose(_, fields)) => numbers(heap, fields)?,
+            _ => Vec::new(heap),
+        };
+        all.push(rows)?;
     }
     Ok(all)
 }
@@ -38,11 +35,11 @@ fn row_fields(heap: Global, lines: &[Line]) -> Result<Vec<Vec<u16>>, AllocError>
 fn calls_of<'t, 'r, B>(
     heap: Global,
     book: &'t B,
-    lines: &[Line<'t>],
+    lines: &[Option<Line<'t>>],
     rows: &'r [Vec<u16>],
 ) -> Result<Vec<Call<'t, 'r, B>>, AllocError> {
     let mut calls = Vec::new(heap);
-    for (line, fields) in lines.iter().zip(rows.iter()) {
+    for (line, fields) in lines.iter().zip(rows) {
         calls.push(call_of(*line, fields.as_slice(), book))?;
     }
     Ok(calls)
@@ -54,34 +51,23 @@ fn outcomes_of<V: Vocabulary, L: Lexicon>(
     vocabulary: &V,
     calls: &[Call<L>],
 ) -> Result<Vec<Result<sheet::Answer<V::Degree>, SheetFault>>, AllocError> {
-    let mut outcomes = Vec::new(heap);
-    for _ in calls {
-        outcomes.push(Ok(sheet::Answer::Done))?;
-    }
+    let mut outcomes = vec![in heap; Ok(sheet::Answer::Done); calls.len()]?;
     let _ = replay(vocabulary, calls, outcomes.as_mut_slice());
     Ok(outcomes)
-}
-
-/// What is answered to a line whose call had this outcome.
-fn answer_to<D: Coded>(line: Line, outcome: Result<sheet::Answer<D>, SheetFault>) -> Answer {
-    match line {
-        Line::Unknown => Answer::Unknown,
-        _ => told(outcome),
-    }
 }
 
 /// The answers to the lines of a script: the calls that they ask for are carried out on a fresh sheet over the book.
 pub fn answers<'t, D: Coded, B: Vocabulary<Degree = D> + Lexicon>(
     heap: Global,
     book: &'t B,
-    lines: &[Line<'t>],
+    lines: &[Option<Line<'t>>],
 ) -> Result<Vec<Answer>, AllocError> {
     let rows = row_fields(heap, lines)?;
     let calls = calls_of(heap, book, lines, rows.as_slice())?;
     let outcomes = outcomes_of(heap, book, calls.as_slice())?;
     let mut all = Vec::new(heap);
     for (line, outcome) in lines.iter().zip(outcomes.iter()) {
-        all.push(answer_to(*line, *outcome))?;
+        all.push(line.map_or(Answer::Unknown, |_| told(*outcome)))?;
     }
     Ok(all)
 }

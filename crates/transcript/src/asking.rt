@@ -5,9 +5,12 @@ use sheet::Call;
 
 /// The call that a line asks for, over a book, with the rows of its fields. A line that asks for nothing becomes a look at the mark,
 /// which changes nothing, so that each line has its outcome.
-pub fn call_of<'t, 'r, B>(line: Line<'t>, rows: &'r [u16], book: &'t B) -> Call<'t, 'r, B>
+pub fn call_of<'t, 'r, B>(line: Option<Line<'t>>, rows: &'r [u16], book: &'t B) -> Call<'t, 'r, B>
     ensures { AsksFor line.entry rows.now book.now result }
 {
+    let Some(line) = line else {
+        return Call::Mark;
+    };
     match line {
         Line::Variable(label) => Call::Variable(label),
         Line::Compose(word, _) => Call::Compose(word, rows),
@@ -17,6 +20,5 @@ pub fn call_of<'t, 'r, B>(line: Line<'t>, rows: &'r [u16], book: &'t B) -> Call<
         Line::Mark => Call::Mark,
         Line::Degree => Call::Degree,
         Line::Resolve(p) => Call::Resolve(p),
-        Line::Unknown => Call::Mark,
     }
 }

@@ -1,4 +1,5 @@
 pub mod Families
 pub mod Paths
 pub mod Verdicts
+pub mod Words
 pub mod Tables

@@ -28,10 +28,8 @@ fn check_word<S: Scale>(
     if parent > word || arities[parent] != arities[word] {
         return Err(Flaw::Parent);
     }
-    match S::from_code(codes[word]) {
-        Some(_) => Ok(()),
-        None => Err(Flaw::Code),
-    }
+    S::from_code(codes[word]).ok_or(Flaw::Code)?;
+    Ok(())
 }
 
 /// Whether three lists, of arities, of parents and of codes of degrees, are a family tree.
@@ -48,9 +46,9 @@ pub fn check_tree<S: Scale>(arities: &[u8], parents: &[u8], codes: &[u16]) -> Re
         return Err(TreeFault::Count(count));
     }
     for word in 0..count {
-        if let Err(flaw) = check_word::<S>(arities, parents, codes, word) {
-            return Err(TreeFault::Word(word as u8, flaw));
-        }
+        check_word::<S>(arities, parents, codes, word).map_err(|flaw| TreeFault::Word(
+            word as u8, flaw,
+        ))?;
     }
     Ok(())
 }

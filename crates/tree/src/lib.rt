@@ -5,6 +5,7 @@ mod causes;
 mod checks;
 mod table;
 mod tree;
+mod word;
 
 pub use causes::{Flaw, TreeFault};
 pub use checks::check_tree;

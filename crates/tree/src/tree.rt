@@ -1,13 +1,38 @@
-ghost use Rattle.std.specs.Prelude.{◌≡◌, ◌<◌};
-ghost use Rattle.tree.specs.Families.{IsTree, family};
+ghost use Rattle.std.specs.Prelude.{◌≡◌, ◌<◌, ◌≤◌, length};
+ghost use Rattle.lists.specs.Entries.{entries};
+ghost use Rattle.tree.specs.Families.{Even, IsTree, family};
 ghost use Rattle.tree.specs.Paths.{IsLikeness, like_below, tree_words};
 ghost use Rattle.tree.specs.Tables.{tabled};
+ghost use Rattle.tree.specs.Words.{words_family};
 ghost use Rattle.vocabulary.specs.Words.{IsVocabulary};
 
 use crate::table::Table;
-use lists::kept;
+use crate::word::Word;
+use lists::List;
 use scale::{Scale, degree_of};
-use vocabulary::Vocabulary;
+use vocabulary::{MOST_WORDS, Vocabulary};
+
+/// The words that three lists give, one entry of each to a word.
+fn words_of(arities: &[u8], parents: &[u8], codes: &[u16]) -> List<Word, MOST_WORDS>
+    requires even { Even arities.now parents.now codes.now }
+    requires few { length arities.now ≤ 128 }
+    ensures { words_family (entries result) ≡ family arities.now parents.now codes.now }
+{
+    let mut words = List::new(Word {
+        arity: 0,
+        parent: 0,
+        code: 0,
+    });
+    // By the index: of two zips, one in the other, the proof does not learn the items.
+    for (i, arity) in arities.iter().enumerate() {
+        words.push(Word {
+            arity: *arity,
+            parent: parents[i],
+            code: codes[i],
+        });
+    }
+    words
+}
 
 /// A family tree: words alike through their common ancestors.
 #[derive(Drop)]
@@ -26,10 +51,7 @@ impl<S: Scale> Tree<S> {
     {
         Tree {
             table: Table {
-                arities: kept(arities, 0),
-                parents: kept(parents, 0),
-                codes: kept(codes, 0),
-                count: arities.len() as u8,
+                words: words_of(arities, parents, codes),
             },
             bottom: S::bottom(),
         }
@@ -37,19 +59,21 @@ impl<S: Scale> Tree<S> {
 
     /// The likeness of two words: the higher of them climbs until they meet.
     fn climbed(&self, mut f: u16, mut g: u16) -> S
-        requires left { f < self.now.table.count }
-        requires right { g < self.now.table.count }
-        ensures { result ≡ like_below S.Scale.operations (tabled self.now.table) self.now.table.count f g }
+        requires left { f < (tabled self.now.table).count }
+        requires right { g < (tabled self.now.table).count }
+        ensures { result ≡ like_below S.Scale.operations (tabled self.now.table) (tabled self.now.table).count f g }
     {
+        let words = self.table.words.as_slice();
         let apart = S::bottom();
         let mut degree = S::top();
         while f != g {
             let high = f.max(g);
-            let parent = self.table.parents[high as usize] as u16;
+            let word = words[high as usize];
+            let parent = word.parent as u16;
             if parent == high {
                 return apart;
             }
-            degree = degree.meet(degree_of(self.table.codes[high as usize]));
+            degree = degree.meet(degree_of(word.code));
             g = f.min(g);
             f = parent;
         }
@@ -63,14 +87,11 @@ impl<S: Scale> Vocabulary for Tree<S> {
     ghost model = { λ t. tree_words S.Scale.operations (tabled t.table) };
 
     fn count(&self) -> u16 {
-        self.table.count as u16
+        self.table.words.len() as u16
     }
 
     fn arity(&self, word: u16) -> Option<u8> {
-        if word >= self.count() {
-            return None;
-        }
-        Some(self.table.arities[word as usize])
+        Some(self.table.words.as_slice().get(word as usize)?.arity)
     }
 
     fn likeness(&self, f: u16, g: u16) -> S

@@ -6,4 +6,4 @@ use Rattle.layout.proofs.entries.entries.Given as goal
 
 abbrev pub invariant-loop-i : goal.invariant-loop-i
 invariant-loop-i l =
-    (l.at ≡ entry_start l.bytes l.i) × (l.at ≤ length l.bytes) × Below l.i (GoodEntry l.bytes)
+    (l.at ≡ entry_start l.bytes l.i-counter) × (l.at ≤ length l.bytes) × Below l.i-counter (GoodEntry l.bytes)

@@ -1,5 +1,5 @@
 use Rattle.layout.proofs.FormFaults.{form_only}
 use Rattle.layout.proofs.form.check_form.Goals as goal
 
-pub returns : goal.returns
-returns c = record { fits = c.form.ensures; only = form_only _ _ c.form.ensures }
+pub returns-clause-only : goal.returns-clause-only
+returns-clause-only c = form_only _ _ c.form.ensures

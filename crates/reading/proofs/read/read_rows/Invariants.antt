@@ -6,12 +6,14 @@ use Rattle.reading.specs.Stacks.{innermost}
 use Rattle.reading.proofs.Progress.{Progress}
 use Rattle.reading.proofs.read.read_rows.Given as goal
 
+-- the items that are left are those of what is still to be put
 abbrev pub invariant-loop-next : goal.invariant-loop-next
-invariant-loop-next g l =
-    (l.at ≤ length l.text)
-    × (((a : Accepted (g.L.Lexicon.spellings l.lexicon) l.arities l.text) →
-    Progress (g.L.Lexicon.spellings l.lexicon) l.arities l.text (sheet_of l.initial.table.rows l.initial.table.equations) a.term l.at (innermost l.open.items l.open.len) (sheet_of l.table.rows l.table.equations))
-    × (IsUniform l.initial.table.rows l.initial.table.equations l.initial.table.classes → IsUniform l.table.rows l.table.equations l.table.classes))
+invariant-loop-next g l = record {
+  within : l.at ≤ length l.source.bytes.now;
+  progress : (a : Accepted (g.L.Lexicon.spellings l.lexicon) l.arities l.source.bytes.now) →
+      Progress (g.L.Lexicon.spellings l.lexicon) l.arities l.source.bytes.now (sheet_of l.initial.table.rows l.initial.table.equations) a.term l.at (innermost l.opened) (sheet_of l.table.rows l.table.equations);
+  uniform : IsUniform l.initial.table.rows l.initial.table.equations l.initial.table.classes → IsUniform l.table.rows l.table.equations l.table.classes;
+}
 
 abbrev pub decreases-loop-next : goal.decreases-loop-next
-decreases-loop-next g l = length l.text - l.at
+decreases-loop-next g l = length l.source.bytes.now - l.at

@@ -13,4 +13,5 @@ returns g c =
     let words =
     c.in_ok-left.ensures ∙
     (λ i. words_text S told (floored S (c.new-floor.ensures.degree i) (g.V.Vocabulary.model (c.new-floor.ensures.below i))) spellings) in
-    retold string_bytes _ _ _ c.format.ensures.ok (λ i. above_text (c.in_ok-told.ensures i) (words i))
+    let f = rw (g.met.D.Told.printed c.args.degree) at c.format.ensures.ok in
+    retold string_bytes _ _ _ f (λ i. above_text (told c.args.degree) (words i))

@@ -1,13 +1,20 @@
-use Rattle.std.proofs.Common.{◌≡◌, leb, length, IsUtf8, sym, ◌∙◌, subst}
+use Rattle.std.proofs.Common.{◌≡◌, leb, length, rules, IsUtf8, Ok, Err, Result, MatchResult, sym, ◌∙◌, subst}
+use Rattle.std.specs.Result.{IsOk}
 use Rattle.account.proofs.Ascii.{signs_utf8}
 use Rattle.layout.specs.Places.{entry_end, entry_start, spelling_at}
 use Rattle.std.proofs.lemmas.Bool.{cond-true, le-leb}
 use Rattle.report.proofs.forms.spelled.Goals as goal
 
-pub unreachable-requires : goal.unreachable-requires
-unreachable-requires c =
+-- What is not refused is taken.
+taken : {X E : Type 0} (P : X → Type 0) (Q : Type 0) (R : E → Type 0) (r : Result X E) → MatchResult r P (λ e. (Q → ⊥) × R e) → Q → IsOk r
+taken P Q R (Ok x) m q = search rules
+taken P Q R (Err e) m q = absurd (m.0 q)
+
+pub unwrap-requires : goal.unwrap-requires
+unwrap-requires c =
     let B = c.args.bytes.now in
     let i = c.args.i in
-    let there = c.in-Some.ensures ∙ cond-true (leb (entry_end B (entry_start B i)) (length B)) _ _ (le-leb _ _ c.requires.present) in
-    let same : c.in-Some.spelling.now ≡ spelling_at B i = cc in
-    c.in-Err.ensures.cases.0 (subst IsUtf8 (sym same) (signs_utf8 _ c.requires.signs))
+    let there = c.spelling_in.ensures ∙ cond-true (leb (entry_end B (entry_start B i)) (length B)) _ _ (le-leb _ _ c.requires.present) in
+    let e = rw c.unwrap-spelling.ensures at there in
+    let same : c.unwrap-spelling.result.now ≡ spelling_at B i = cc in
+    taken _ (IsUtf8 c.unwrap-spelling.result.now) _ c.from_utf8.result c.from_utf8.ensures.cases (subst IsUtf8 (sym same) (signs_utf8 _ c.requires.signs))

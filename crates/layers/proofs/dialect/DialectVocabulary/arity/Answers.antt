@@ -1,26 +1,7 @@
-use Rattle.layers.proofs.Spoken.{table_laws, arity_none, arity_some}
+use Rattle.layers.specs.Tables.{tabled}
+use Rattle.layers.proofs.Spoken.{dialect_laws}
 use Rattle.layers.proofs.dialect.DialectVocabulary.arity.Goals as goal
 
-pub returns-in-None : goal.returns-in-None
-returns-in-None g c =
-    let S = g.V.Degree.Scale.operations in
-    let lawful = g.met.V.Degree.Scale.lawful in
-    let table = c.args.self.now.table in
-    let V = g.V.Vocabulary.model c.args.self.now.below in
-    let named = c.named.ensures in
-    record {
-      value = arity_none S table V lawful named.laws c.args.word _ named.value c.in-None.is;
-      laws = table_laws S table V lawful named.laws;
-    }
-
-pub returns-in-Some : goal.returns-in-Some
-returns-in-Some g c =
-    let S = g.V.Degree.Scale.operations in
-    let lawful = g.met.V.Degree.Scale.lawful in
-    let table = c.args.self.now.table in
-    let V = g.V.Vocabulary.model c.args.self.now.below in
-    let named = c.named.ensures in
-    record {
-      value = arity_some S table V lawful named.laws c.args.word _ named.value _ _ c.in-Some.is c.arity.ensures.value;
-      laws = table_laws S table V lawful named.laws;
-    }
+pub returns-clause-laws : goal.returns-clause-laws
+returns-clause-laws g c =
+    dialect_laws _ (tabled c.args.self.now.table) _ g.met.V.Degree.Scale.lawful c.named.ensures.laws c.args.self.now.table.counted

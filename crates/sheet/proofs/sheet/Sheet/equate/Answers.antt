@@ -2,11 +2,9 @@ use Rattle.std.proofs.Common.{◌≡◌, ℕ, true, false, sym, refl, ◌∙◌,
 use Rattle.sheet.proofs.Equated.{no_join, clash_answer, done_answer, occurs_answer}
 use Rattle.sheet.proofs.sheet.Sheet.equate.Goals as goal
 use Rattle.sheet.specs.Calls.{equation}
+use Rattle.scale.proofs.Equality.{apart_by, equal_by}
 use Rattle.std.proofs.lemmas.Result.{err_from_is_err_and}
 use Rattle.table.specs.Sheets.{sheet_of}
-
-apart : false ≡ true → ⊥
-apart e = let z : ◌≡◌ {A = ℕ} 0 1 = cc in omega arith
 
 pub returns-in_err-classes : goal.returns-in_err-classes
 returns-in_err-classes g c =
@@ -17,32 +15,32 @@ returns-in_err-classes g c =
     let a = no_join g.met.V.Degree.Scale.lawful c.count.ensures.laws s e c.in_err-classes.field-0.0 c.in_err-classes.ensures in
     rw (p.1, p.2) (record { answer = a.0; possible = a.1; kept = refl; vocabulary = refl })
 
-pub returns-then-same : goal.returns-then-same
-returns-then-same g c =
+pub returns-then-eq : goal.returns-then-eq
+returns-then-eq g c =
     let t = c.args.self.now.table in
     let s = sheet_of t.rows t.equations in
     let e = equation c.args.p c.args.q in
     let a =
     clash_answer g.met.V.Degree.Scale.lawful c.count.ensures.laws s e c.in_ok-classes.classes c.in_ok-classes.ensures c.gather.result c.gather.ensures.value
-    (c.if-same.ensures.test.0 refl ∙ c.bottom.ensures) in
+    (equal_by g.met.V.Degree.Scale.lawful g.met.V.Degree.Scale.equal c.eq.ensures c.if-eq.true ∙ c.bottom.ensures) in
     record { answer = a.0; possible = a.1; kept = refl; vocabulary = refl }
 
-pub returns-in-Some : goal.returns-in-Some
-returns-in-Some g c =
+pub returns : goal.returns
+returns g c =
     let t = c.args.self.now.table in
     let s = sheet_of t.rows t.equations in
     let e = equation c.args.p c.args.q in
     let a =
     done_answer g.met.V.Degree.Scale.lawful c.count.ensures.laws s e c.in_ok-classes.classes c.in_ok-classes.ensures c.gather.result c.gather.ensures.value
-    (λ h. apart (c.if-same.ensures.test.1 (h ∙ sym c.bottom.ensures))) c.in-Some.ensures.falls (sheet_of c.commit.new.self.rows c.commit.new.self.equations) c.commit.ensures.sheet in
+    (λ h. apart_by g.met.V.Degree.Scale.lawful g.met.V.Degree.Scale.equal c.eq.ensures c.if-eq.false (h ∙ sym c.bottom.ensures)) c.in-Some.ensures.falls (sheet_of c.commit.new.self.rows c.commit.new.self.equations) c.commit.ensures.sheet in
     record { answer = a.0; possible = a.1; kept = tt; vocabulary = refl }
 
-pub returns-in-None : goal.returns-in-None
-returns-in-None g c =
+pub returns-in_default : goal.returns-in_default
+returns-in_default g c =
     let t = c.args.self.now.table in
     let s = sheet_of t.rows t.equations in
     let e = equation c.args.p c.args.q in
     let a =
     occurs_answer g.met.V.Degree.Scale.lawful c.count.ensures.laws s e c.in_ok-classes.classes c.in_ok-classes.ensures c.gather.result c.gather.ensures.value
-    (λ h. apart (c.if-same.ensures.test.1 (h ∙ sym c.bottom.ensures))) c.in-None.ensures in
+    (λ h. apart_by g.met.V.Degree.Scale.lawful g.met.V.Degree.Scale.equal c.eq.ensures c.if-eq.false (h ∙ sym c.bottom.ensures)) c.in_default.ensures in
     record { answer = a.0; possible = a.1; kept = refl; vocabulary = refl }

@@ -1,8 +1,9 @@
+use Rattle.std.proofs.Common.{arith}
 use Rattle.text_cases.proofs.Spelled.{lawful, spells_letter}
 use Rattle.text_cases.proofs.letters.LettersLexicon.word.Goals as goal
 
-pub returns-then-spelling-le102 : goal.returns-then-spelling-le102
-returns-then-spelling-le102 c = record {
-  finds = spells_letter c.args.spelling.now c.if-spelling-eq1.true c.if-spelling-ge97.true c.if-spelling-le102.true;
+pub returns-in-97-to-102 : goal.returns-in-97-to-102
+returns-in-97-to-102 c = record {
+  finds = rw c.from.ensures (spells_letter c.args.spelling.now (omega arith) (omega arith) (omega arith));
   laws = lawful;
 }

@@ -1,15 +1,7 @@
-use Rattle.std.proofs.Common.{refl, arith}
-use Rattle.lists.proofs.Fills.{filled_all}
-use Rattle.tree.proofs.Held.{same_family}
+use Rattle.std.proofs.Common.{sym, subst}
+use Rattle.tree.specs.Families.{IsFamily}
+use Rattle.tree.proofs.Held.{tree_family}
 use Rattle.tree.proofs.tree.Tree.new.Goals as goal
 
-pub returns : goal.returns
-returns g c =
-    record {
-      words =
-          same_family _ _ refl
-          (filled_all 128 _ _ 0 c.kept.ensures.size (omega arith) c.kept.ensures.entries)
-          (filled_all 128 _ _ 0 c.kept-2.ensures.size (omega arith) c.kept-2.ensures.entries)
-          (filled_all 128 _ _ 0 c.kept-3.ensures.size (omega arith) c.kept-3.ensures.entries);
-      bottom = c.bottom.ensures;
-    }
+pub invariant_of-result : goal.invariant_of-result
+invariant_of-result g c = record { family = subst IsFamily (sym c.words_of.ensures) (tree_family _ _ _ _ c.requires) }

@@ -1,7 +1,0 @@
-use Rattle.std.proofs.Common.{sym, subst}
-use Rattle.book.specs.Laws.{Lawful}
-use Rattle.scale.specs.Degrees.{line_operations}
-use Rattle.book.proofs.lines_book.LinesBook.new.Goals as goal
-
-pub invariant_of-result : goal.invariant_of-result
-invariant_of-result c = record { lawful = ∣ subst (Lawful line_operations) (sym c.new.ensures) c.requires.lawful ∣₁ }

@@ -1,5 +1,0 @@
-use Rattle.book.proofs.Books.{mark_book}
-use Rattle.book.proofs.marks_book.MarksBookVocabulary.count.Goals as goal
-
-pub returns : goal.returns
-returns c = record { value = c.count.ensures.value; laws = mark_book c.args.self.now }
