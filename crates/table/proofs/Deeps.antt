@@ -66,10 +66,6 @@ unfolding missing
 missing_le d zero = omega arith
 missing_le d (suc n) = let a = gap_le d n in let b = missing_le d n in omega arith
 
-pub heights_moved : (rows : List Row) (n : ℕ) (c d e : List ℕ) (next more : ℕ) → e ≡ d → more ≡ next → Heights rows n c d next → Heights rows n c e more
-heights_moved rows n c d e next more i j h =
-    subst (λ (z : List ℕ). Heights rows n c z more) (sym i) (subst (λ (z : ℕ). Heights rows n c d z) (sym j) h)
-
 -- Before any depth is given.
 pub heights_none : (rows : List Row) (n : ℕ) (c d : List ℕ) → Below n (λ p. at d p ≡ 0) → Heights rows n c d 1
 heights_none rows n c d z =
@@ -128,14 +124,6 @@ module _ (rows : List Row) (n : ℕ) (c : List ℕ) (lower : Lower rows) (within
           let o = other q s in
           let f = h.falls q hq (subst (λ (z : ℕ). 0 < z) o k) i hi in
           omega arith
-
-  -- With a depth for every row, all is settled.
-  pub settled_all : (d : List ℕ) (next : ℕ) → Heights rows n c d next → Below n (λ p. 0 < at d p) → Settled rows n c d
-  settled_all d next h k =
-      record {
-        bound = λ p hp. let a = h.below p hp in let b = h.left in omega arith;
-        falls = λ p hp. h.falls p hp (k p hp);
-      }
 
 module _ {s : Sheet} (I : IsCoherent s) (c : List ℕ) (R : Represents s (at c)) where
   -- Settled depths are depths of the sheet, where each composed row has as many arguments as its representative.

@@ -5,14 +5,14 @@ use mathlib.Core.Logic.{∥∥₁_elim, ∥∥₁_map}
 use mathlib.Core.Option.{Option, none, some}
 use lib.ListN.{get_elem?}
 use Rattle.fault.specs.Firsts.{Below}
-use Rattle.std.proofs.lemmas.List.{get_or-map, length-map}
+use Rattle.std.proofs.lemmas.List.{get_or-map}
 use Rattle.std.proofs.lemmas.Bool.{cases_eq, cases_Bool, cond-true, cond-false, eq-eqb, ne_eqb, leb-true, leb-false}
 use Rattle.table.proofs.Growing.{same_class}
 use Rattle.rows.proofs.Renaming.{renamed_same, renamed_other}
 use Rattle.table.specs.Joining.{Sound, Sides, Agrees, Apart, Differ, Uniform, Unlike, keeps_left, merged, labels}
 use Rattle.rows.specs.Limits.{most_rows}
 use Rattle.rows.specs.Labels.{renamed}
-use Rattle.rows.specs.Stored.{Lower, args_at, args_of, at, rank}
+use Rattle.rows.specs.Stored.{args_at, args_of, at, rank}
 use Rattle.unification.proofs.Bridges.{represents_from}
 use Rattle.unification.proofs.Depths.{closure_rows}
 use Rattle.unification.proofs.Numberings.{at_hand}
@@ -102,13 +102,6 @@ module _ (sheet : Sheet) (n : ℕ) where
           left : renamed (at c b) (at c a) (at c a) ≡ at c a
           left = elim (cases_eq (at c a) (at c b)) [ inl e ↦ renamed_same (at c b) (at c a) (at c a) e | inr d ↦ renamed_other (at c b) (at c a) (at c a) d ]
 
-  pub length_merged : (c : List ℕ) (a b : ℕ) → length (merged sheet.rows c a b) ≡ length c
-  length_merged c a b =
-      elim (cases_Bool (keeps_left sheet.rows c a b)) [
-        | inl t ↦ ap length (cond-true (keeps_left sheet.rows c a b) _ _ t) ∙ length-map c (renamed (at c b) (at c a))
-        | inr t ↦ ap length (cond-false (keeps_left sheet.rows c a b) _ _ t) ∙ length-map c (renamed (at c a) (at c b))
-      ]
-
 -- One at a label, else none
 abbrev mark : List ℕ → ℕ → ℕ
 mark c k = cond (eqb (at c k) k) 1 0
@@ -182,16 +175,6 @@ module _ (sheet : Sheet) (n : ℕ) where
       subst (λ (z : ℕ). ∥ Closure sheet z y ∥₁) (sym o.left)
       (subst (λ (z : ℕ). ∥ Closure sheet (get_or (args_at sheet.rows o.row) o.place 0) z ∥₁) (sym o.right)
       (args_together o.row (at c o.row) o.place (s.together o.row o.row_in) o.arities o.place_in))
-
-  pub apart_left : (c : List ℕ) (x y : ℕ) → Lower sheet.rows → Apart sheet.rows n c x y → x < n
-  apart_left c x y l o = let a = l o.row o.place o.place_in in let b = o.row_in in let e = o.left in omega arith
-
-  pub apart_right : (c : List ℕ) (x y : ℕ) → Lower sheet.rows → Sound sheet n c → Apart sheet.rows n c x y → y < n
-  apart_right c x y l s o =
-      let a = l (at c o.row) o.place (subst (λ (z : ℕ). o.place < z) o.arities o.place_in) in
-      let b = s.within o.row o.row_in in
-      let e = o.right in
-      omega arith
 
   pub sides_merged : IsCoherent sheet → (c : List ℕ) (a b : ℕ) → length sheet.rows ≤ length c → Sides sheet c → Sides sheet (merged sheet.rows c a b)
   sides_merged I c a b len k e m =
