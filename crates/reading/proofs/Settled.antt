@@ -33,7 +33,7 @@ module _ (spellings : ℕ → Option (List ℕ)) (arities : List ℕ) (text : Li
   same_term a b = b.reads.only a.term a.reads.formed a.reads.writes
 
   not_both : Accepted spellings arities text → (f : TextFault) → Refused spellings arities text f → ⊥
-  not_both a f r = let e = only_one spellings arities text (Ok tt) (Err f) a r in let z : ◌≡◌ {A = ℕ} 0 1 = cc in omega arith
+  not_both a f r = let e = only_one spellings arities text (Ok tt) (Err f) a r in cc
 
   same_fault : (f g : TextFault) → Refused spellings arities text f → Refused spellings arities text g → f ≡ g
   same_fault f g a b = let e = only_one spellings arities text (Err g) (Err f) b a in cc

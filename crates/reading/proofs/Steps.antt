@@ -51,16 +51,16 @@ leads_total (f ∷ fs) p s =
 -- The first item tells what the term is.
 starts_variable : (t : Term) (x : ℕ) (es rest : List Entry) → variable x ∷ es ≡ items t ++ rest → (t ≡ var x) × (es ≡ rest)
 starts_variable (var y) x es rest e = let same : y ≡ x = cc in (ap var same, cc)
-starts_variable (app f ts) x es rest e = let z : ◌≡◌ {A = ℕ} 0 1 = cc in absurd (omega arith)
+starts_variable (app f ts) x es rest e = absurd (cc)
 
 starts_word : (t : Term) (f : ℕ) (es rest : List Entry) → word f ∷ es ≡ items t ++ rest → (ts : Terms) × (t ≡ app f ts) × (es ≡ all_items ts ++ rest)
-starts_word (var y) f es rest e = let z : ◌≡◌ {A = ℕ} 0 1 = cc in absurd (omega arith)
+starts_word (var y) f es rest e = absurd (cc)
 starts_word (app g ts) f es rest e = let same : g ≡ f = cc in (ts, ap (λ (k : ℕ). app k ts) same, cc)
 
 -- A term has an item.
 pub some_item : (t : Term) (rest : List Entry) → items t ++ rest ≡ [] → ⊥
-some_item (var x) rest e = let z : ◌≡◌ {A = ℕ} 0 1 = cc in omega arith
-some_item (app f ts) rest e = let z : ◌≡◌ {A = ℕ} 0 1 = cc in omega arith
+some_item (var x) rest e = cc
+some_item (app f ts) rest e = cc
 
 module _ (arities : List ℕ) (start : Sheet) (t : Term) where
   -- at the start the whole term is due

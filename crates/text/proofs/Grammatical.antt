@@ -1,7 +1,7 @@
 -- From the course to the grammar.
 use Rattle.std.proofs.Common.{◌≡◌, ℕ, suc, ◌+◌, ◌-◌, ◌<◌, ◌≤◌, Bool, true, false, cond, List, [], ◌∷◌, ◌++◌, length, take, drop, sym, refl, ap, ◌∙◌, append_assoc, append-nil, arith, length-append}
 use native.Mathlib.Nat.{sub-zero}
-use Rattle.std.proofs.lemmas.List.{take_at, drop_all, drop_more}
+use Rattle.std.proofs.lemmas.List.{take_at, drop_more}
 use Rattle.std.proofs.lemmas.Bool.Decides.{nat_tests}
 use Rattle.text.specs.Phrases.{Phrase, Phrases, variable, word, none, more, bytes, bracketed, following, Sound, AllSound}
 use Rattle.text.specs.Texts.{IsText, Begins, StopsAt}
@@ -71,7 +71,7 @@ text_whole bs t =
     ap (λ x. course (start 0) 0 x) (sym (append-nil (bytes t.phrase) ∙ t.written)) ∙ goes_phrase t.phrase [] 0 0 (0 + length (bytes t.phrase)) t.sound tt refl
 
 apart : (p : ℕ) → whole ≡ stopped p → ⊥
-apart p e = let z : ◌≡◌ {A = ℕ} 0 1 = cc in omega arith
+apart p e = cc
 
 same : (p q : ℕ) → stopped p ≡ stopped q → p ≡ q
 same p q e = cc
@@ -113,20 +113,13 @@ stops_from text p w b e = record {
   no_text = λ t. apart p (sym (text_whole text t) ∙ e);
 }
 
--- the three ways out
+-- the two ways out with a fault
 pub check_stops : (text : List ℕ) (f : SyntaxFault) → PhraseStops text 0 f.place → StopsAt text f.place
 check_stops text f s =
     let p = f.place in
     let long = end_is text s.front 0 p (omega arith) s.within s.read in
     let cut : take p text ≡ s.front = ap (take p) s.read ∙ take_at s.front (drop p text) p (omega arith) in
     stops_from text p s.within (record { more = s.more; whole = record { phrase = s.phrase; sound = s.sound; written = s.would ∙ ap (λ l. l ++ s.more) (sym cut) } }) (s.goes 0)
-
-pub check_whole : (text : List ℕ) (e : ℕ) → PhraseTo text 0 e → length text ≤ e → IsText text
-check_whole text e s l = record {
-  phrase = s.phrase;
-  sound = s.sound;
-  written = sym (s.read ∙ ap (λ l. bytes s.phrase ++ l) (drop_all e text l) ∙ append-nil (bytes s.phrase));
-}
 
 pub check_trails : (text : List ℕ) (e : ℕ) → PhraseTo text 0 e → e < length text → StopsAt text e
 check_trails text e s l =

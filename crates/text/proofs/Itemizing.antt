@@ -1,5 +1,5 @@
 -- The items of a text, and how a walk over its tokens meets them.
-use Rattle.std.proofs.Common.{◌≡◌, ℕ, ◌+◌, List, [], ◌∷◌, ◌++◌, map, length, drop, Option, refl, ap, ◌∙◌, subst, ap₂, arith, Bor}
+use Rattle.std.proofs.Common.{◌≡◌, ℕ, ◌+◌, List, [], ◌∷◌, ◌++◌, map, length, drop, Option, refl, ap, ◌∙◌, subst, ap₂, Bor}
 use Rattle.unification.specs.Terms.{Term, Terms, var, app, nil, cons}
 use Rattle.vocabulary.specs.Spellings.{Spells, IsLexicon}
 use Rattle.text.specs.declared.token.Token.{Token}
@@ -65,7 +65,7 @@ module _ (spellings : ℕ → Option (List ℕ)) where
   stand_none : (ms : List Mark) (ss : List Standing) → ms ≡ [] → AllStand spellings ms ss → ss ≡ []
   stand_none [] [] e a = refl
   stand_none [] (s ∷ ss) e a = absurd a
-  stand_none (m ∷ ms) ss e a = let z : ◌≡◌ {A = ℕ} 0 1 = cc in absurd (omega arith)
+  stand_none (m ∷ ms) ss e a = cc
 
   -- where no token stands, no item is left
   pub no_items : (text : List ℕ) (at : ℕ) (f : SyntaxFault) (ss : List Standing) → NoToken text at f → ItemsLeft spellings (drop at text) at ss → ss ≡ []

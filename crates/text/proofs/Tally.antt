@@ -86,7 +86,7 @@ none_given none behind left s e = refl
 none_given (more p ps) behind left s e = absurd (both_ways true (subst (Stop opens) e s) refl)
 
 no_bracket : (x behind : List ℕ) → Ended behind → 40 ∷ x ≡ behind → ⊥
-no_bracket x [] h e = let z : ◌≡◌ {A = ℕ} 0 1 = cc in omega arith
+no_bracket x [] h e = cc
 no_bracket x (b ∷ behind) h e = both_ways false refl (ap parts (heads 40 b x behind e) ∙ h)
 
 -- With a `(` behind the word, what is counted is what is given.

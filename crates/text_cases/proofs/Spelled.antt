@@ -18,7 +18,7 @@ is_letter : (w : ℕ) (s : List ℕ) → letters w ≡ Some s → (w < 6) × (s 
 is_letter w s e =
     ⊎_elim
     (λ h. (h, (let l = letter w h in let same : s ≡ (97 + w) ∷ [] = cc in same)))
-    (λ h. absurd (let l = no_letter w h in let z : ◌≡◌ {A = ℕ} 0 1 = cc in omega arith))
+    (λ h. absurd (let l = no_letter w h in cc))
     (cases_lt w 6)
 
 one_letter : (c : ℕ) → 97 ≤ c → c ≤ 102 → IsSpelling (c ∷ [])
