@@ -74,4 +74,3 @@ pub fn account<D: Told, V: Vocabulary<Degree = D>, L: Lexicon>(
     }
     Ok(text)
 }
-

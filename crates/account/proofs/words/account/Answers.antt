@@ -1,5 +1,5 @@
-use Rattle.std.proofs.Common.{[], ◌∙◌, arith}
-use Rattle.scale.proofs.Listings.{listing_all, listing_more, listing_none}
+use Rattle.std.proofs.Common.{[], ◌∙◌}
+use Rattle.scale.proofs.Listings.{listing_more, listing_none}
 use Rattle.account.proofs.words.account.Goals as goal
 
 pub loop-f-init : goal.loop-f-init
@@ -9,7 +9,3 @@ pub loop-f-preserved : goal.loop-f-preserved
 loop-f-preserved g c =
     c.in_ok-push_str.ensures.bytes ∙
     listing_more _ [] c.loop-f.f _ _ c.loop-f.invariant (c.as_str.ensures.value ∙ c.in_ok-more.ensures)
-
-pub returns : goal.returns
-returns g c =
-    listing_all _ [] _ c.loop-f.f _ c.loop-f.invariant (omega (arith, c.count-f-end.ensures.value)) (omega (arith, c.count-f-end.ensures.value))

@@ -1,6 +1,6 @@
 use Rattle.std.proofs.Common.{false, refl}
 use Rattle.std.proofs.lemmas.Bool.{both_ways}
-use Rattle.script.proofs.Splits.{rows_back, rows_on, rows_none, rows_empty, field_shorter, not_empty, is_empty}
+use Rattle.script.proofs.Splits.{rows_back, rows_on, rows_none, field_shorter, not_empty}
 use Rattle.script.proofs.line.are_numbers.Goals as goal
 
 pub loop-left-smaller : goal.loop-left-smaller
@@ -20,8 +20,3 @@ returns-in_default c =
       (λ t. absurd (both_ways false refl t)),
       (λ r. absurd (rows_none left (not_empty left _ c.is_empty.ensures c.loop-left-test.true) c.in_default.ensures (c.loop-left.invariant.1 r))),
     )
-
-pub returns : goal.returns
-returns c =
-    let left = c.loop-left.left.now in
-    ((λ _. c.loop-left.invariant.0 (rows_empty left (is_empty left _ c.is_empty.ensures c.loop-left-test.false))), (λ _. refl))

@@ -1,5 +1,5 @@
-use Rattle.std.proofs.Common.{◌∙◌, arith}
-use Rattle.scale.proofs.Listings.{listing_all, listing_more, listing_none}
+use Rattle.std.proofs.Common.{◌∙◌}
+use Rattle.scale.proofs.Listings.{listing_more, listing_none}
 use Rattle.account.proofs.words.Telling.word_lines.Goals as goal
 
 pub loop-g-init : goal.loop-g-init
@@ -9,7 +9,3 @@ pub loop-g-preserved : goal.loop-g-preserved
 loop-g-preserved g c =
     c.in_ok-push_str.ensures.bytes ∙
     listing_more _ _ c.loop-g.g _ _ c.loop-g.invariant (c.as_str.ensures.value ∙ c.in_ok-more.ensures)
-
-pub returns : goal.returns
-returns g c =
-    listing_all _ _ _ c.loop-g.g _ c.loop-g.invariant (omega (arith, c.count-g-end.ensures.value)) (omega (arith, c.count-g-end.ensures.value))
