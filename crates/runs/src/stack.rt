@@ -2,7 +2,6 @@ ghost use Rattle.std.specs.Prelude.{min, drop, length, take, ◌≡◌};
 ghost use Rattle.layers.specs.Dialects.{spoken};
 ghost use Rattle.layers.specs.Floors.{floored};
 ghost use Rattle.layers.specs.Tables.{tabled as dialect_tabled};
-ghost use Rattle.scale.specs.Degrees.{line_operations};
 ghost use Rattle.sheet.specs.Promises.{Promised};
 ghost use Rattle.sheet.specs.Runs.{Replayed};
 ghost use Rattle.table.specs.Sheets.{sheet_of};
@@ -10,26 +9,26 @@ ghost use Rattle.tree.specs.Paths.{tree_words};
 ghost use Rattle.tree.specs.Tables.{tabled as tree_tabled};
 
 use layers::{Dialect, Floor};
-use scale::Lines;
+use scale::Scale;
 use sheet::{Answer, Call, Sheet, SheetFault, replay};
 use tree::Tree;
 use vocabulary::Lexicon;
 
-/// Carries out the calls on a fresh sheet over a dialect over a floor over a family tree of sets of lines.
-pub fn replay_stack<'a, L: Lexicon>(
-    words: &'a Dialect<Floor<Tree<Lines>>>,
+/// Carries out the calls on a fresh sheet over a dialect over a floor over a family tree.
+pub fn replay_stack<'a, S: Scale, L: Lexicon>(
+    words: &'a Dialect<Floor<Tree<S>>>,
     calls: &[Call<'_, '_, L>],
-    outcomes: &mut [Result<Answer<Lines>, SheetFault>],
-) -> Sheet<'a, Dialect<Floor<Tree<Lines>>>>
-    ensures run { Replayed L.Lexicon.spellings line_operations
-        (spoken line_operations (dialect_tabled words.now.table) (floored line_operations words.now.below.degree (tree_words line_operations (tree_tabled words.now.below.below.table))))
+    outcomes: &mut [Result<Answer<S>, SheetFault>],
+) -> Sheet<'a, Dialect<Floor<Tree<S>>>>
+    ensures run { Replayed L.Lexicon.spellings S.Scale.operations
+        (spoken S.Scale.operations (dialect_tabled words.now.table) (floored S.Scale.operations words.now.below.degree (tree_words S.Scale.operations (tree_tabled words.now.below.below.table))))
         (take (min (length calls.now) (length outcomes.old)) calls.now)
         (take (min (length calls.now) (length outcomes.old)) outcomes.new)
         (sheet_of result.table.rows result.table.equations) }
     ensures rest { drop (min (length calls.now) (length outcomes.old)) outcomes.new
         ≡ drop (min (length calls.now) (length outcomes.old)) outcomes.old }
-    ensures promise { Promised line_operations
-        (spoken line_operations (dialect_tabled words.now.table) (floored line_operations words.now.below.degree (tree_words line_operations (tree_tabled words.now.below.below.table))))
+    ensures promise { Promised S.Scale.operations
+        (spoken S.Scale.operations (dialect_tabled words.now.table) (floored S.Scale.operations words.now.below.degree (tree_words S.Scale.operations (tree_tabled words.now.below.below.table))))
         (sheet_of result.table.rows result.table.equations) }
 {
     replay(words, calls, outcomes)

@@ -45,6 +45,7 @@ pub fn check_tree<S: Scale>(arities: &[u8], parents: &[u8], codes: &[u16]) -> Re
     if !fits(count) {
         return Err(TreeFault::Count(count));
     }
+    // By the number, which the fault names: the three lists are the public form, and a parent is a number in them.
     for word in 0..count {
         check_word::<S>(arities, parents, codes, word).map_err(|flaw| TreeFault::Word(
             word as u8, flaw,
