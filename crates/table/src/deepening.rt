@@ -86,6 +86,7 @@ impl<'r> Deepening<'r> {
         ensures missing { let n = length (rows_of self.old.classing.rows.now.items) in
             missing self.new.depths.of n ≤ missing self.old.depths.of n }
     {
+        // `p` is a row's number, and each turn changes what the next one reads: there is no list to go over.
         for p in 0..self.classing.rows.len() {
             if self.is_ready(p) {
                 self.give(p);
@@ -108,6 +109,7 @@ impl<'r> Classing<'r> {
             deepening.give(p);
             deepening.sweep();
         }
+        // `map_or(Ok(deepening.depths), Err)` says the same, and is no plainer.
         match deepening.find_missing() {
             Some(p) => Err(p),
             None => Ok(deepening.depths),
