@@ -9,11 +9,8 @@ use vocabulary::Lexicon;
 pub fn name<L: Lexicon>(heap: Global, lexicon: &L, word: u16) -> Result<String, AllocError>
     ensures { IfOk result (λ s. string_bytes s ≡ name_of (L.Lexicon.spellings lexicon.now) word) }
 {
-    match lexicon.spelling(word) {
-        Some(spelling) => match str::from_utf8(spelling) {
-            Ok(text) => String::from_str(heap, text),
-            Err(_) => unreachable(),
-        },
-        None => format!(in heap; "word {word}"),
-    }
+    let Some(spelling) = lexicon.spelling(word) else {
+        return format!(in heap; "word {word}");
+    };
+    String::from_str(heap, str::from_utf8(spelling).unwrap())
 }

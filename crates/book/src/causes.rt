@@ -27,6 +27,7 @@ pub enum BookFault {
     Law(LawFault),
 }
 
+// Written out: a derived `From` has no contract, and `?` has to say which variant it makes.
 impl From<FormFault> for BookFault {
     ghost from_gives = { λ f b. b ≡ Form f };
 
@@ -43,6 +44,7 @@ impl From<LawFault> for BookFault {
     }
 }
 
+// The numbers are those of the printed line and of the answer to C.
 impl Cause for LawFault {
     ghost refusal = { law_refusal };
 

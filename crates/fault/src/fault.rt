@@ -6,7 +6,8 @@ ghost use Rattle.std.specs.Prelude.{◌≡◌, Some};
 use crate::layer::Layer;
 use std::fmt;
 
-/// A refusal: its layer, its number and its place.
+/// A refusal: its layer, its number and its place. The causes are enums of the layers; the number is what is printed and what C is
+/// answered, so it stays a number, and each cause is turned into it in one function.
 #[derive(Clone, Copy, PartialEq, Eq, Debug)]
 pub struct Fault {
     pub layer: Layer,

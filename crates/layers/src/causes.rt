@@ -11,6 +11,7 @@ pub enum DialectFault {
     Entry(u8),
 }
 
+// The numbers are those of the printed line and of the answer to C.
 impl Cause for DialectFault {
     ghost refusal = { dialect_refusal };
 

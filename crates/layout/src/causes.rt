@@ -38,6 +38,7 @@ pub enum FormFault {
     LeftOver,
 }
 
+// The numbers are those of the printed line and of the answer to C.
 impl Cause for FormFault {
     ghost refusal = { form_refusal };
 

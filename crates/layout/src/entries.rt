@@ -17,6 +17,9 @@ pub fn entry_end(bytes: &[u8], at: usize) -> usize
     at + 2 + bytes[at + 1] as usize
 }
 
+// The loops here go from entry to entry: each carries the place that the last one gave. An iterator of our own over the entries would need
+// its own laws, to say the same.
+
 /// Where the entry of word `i` begins, or where the entries end.
 pub fn locate(bytes: &[u8], i: u8) -> usize
     requires { Below i (Present bytes.now) }

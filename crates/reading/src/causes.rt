@@ -28,7 +28,7 @@ pub enum ReadFault {
 }
 
 impl ReadFault {
-    /// The refusal of a text that stands in the layer.
+    /// The refusal of a text that stands in the layer. The numbers are those of the printed line and of the answer to C.
     pub fn fault(self, layer: Layer) -> Fault
         ensures { result ≡ read_refusal layer self }
     {

@@ -14,6 +14,8 @@ use table::Table;
 use text::{Source, check_text};
 use vocabulary::Lexicon;
 
+// The lexicon and the arities are two parameters, as in the call that is public: the arities are lent as a plain list.
+
 /// Puts the rows of a checked text onto the table, and answers the row of the whole.
 fn read_rows<L: Lexicon>(
     table: &mut Table,

@@ -48,11 +48,13 @@ fn refusal(heap: Global, bytes: &[u8], fault: BookFault) -> Result<String, Alloc
     format!(in heap; "{line}\n{sentence}\n")
 }
 
-/// The kind of the book in the bytes; where they are refused, what is told of that.
+/// The kind of the book in the bytes; where they are refused, what is told of that. Whoever asks goes by the kind to one generic function:
+/// no closure can stand for it, since none is generic over the scale.
 pub fn checked(heap: Global, bytes: &[u8]) -> Result<Kind, Untold>
     ensures kind { IfOk result (λ k. Verdict bytes.now (Ok k)) }
     ensures told { (v : Result Kind BookFault) → Verdict bytes.now v → Checked bytes.now v result }
 {
+    // not by `map_err`: to tell a refusal may fail for want of memory, and needs the verdict
     match check(bytes) {
         Ok(kind) => Ok(kind),
         Err(fault) => Err(Untold::Refused(refusal(heap, bytes, fault)?)),

@@ -17,6 +17,7 @@ pub struct Rows {
     ghost lower: { Lower (rows_of items) },
 }
 
+// `p` is below the number of rows wherever one is asked for, as an index is within its slice.
 impl Rows {
     /// No rows.
     pub fn none() -> Self

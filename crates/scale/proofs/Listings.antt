@@ -13,8 +13,3 @@ module _ (f : ℕ → List ℕ) (front : List ℕ) where
       ap (λ (t : List ℕ). t ++ more) before ∙
       (append_assoc front (listing n f) more ∙
       (ap (λ (m : List ℕ). front ++ (listing n f ++ m)) here ∙ ap (λ (k : ℕ). front ++ listing k f) (sym (add-one n))))
-
-  pub listing_all : (n k : ℕ) (text : List ℕ) → text ≡ front ++ listing k f → k ≤ n → n ≤ k → text ≡ front ++ listing n f
-  listing_all n k text all le ge =
-      let e : k ≡ n = omega arith in
-      all ∙ ap (λ (m : ℕ). front ++ listing m f) e

@@ -9,6 +9,7 @@ pub enum DegreeFault {
     NoDegree(u16),
 }
 
+// The numbers are those of the printed line and of the answer to C.
 impl Cause for DegreeFault {
     ghost refusal = { degree_refusal };
 

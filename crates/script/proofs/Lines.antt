@@ -177,7 +177,3 @@ found_line line word rest s v e r h =
   where
     whole : (a : Asked) → Follows v rest a → word ++ rest ≡ written a
     whole a f = let w : word ≡ spelled (verb a) = e ∙ ap spelled (sym f.verbed) in let b = f.is in λ i. w i ++ b i
-
-pub nil_from : (bytes : List ℕ) → length bytes ≡ 0 → bytes ≡ []
-nil_from [] h = refl
-nil_from (b ∷ bs) h = absurd (omega arith)

@@ -58,17 +58,11 @@ pub solid_push : (xs : List ℕ) (b : ℕ) → Solid xs → (b ≡ 32 → ⊥) �
 solid_push [] b h k = (k, tt)
 solid_push (x ∷ xs) b h k = (h.0, solid_push xs b h.1 k)
 
-pub solid_more : (bytes : List ℕ) (i : ℕ) → i < length bytes → Solid (take i bytes) → (get_or bytes i 0 ≡ 32 → ⊥) → Solid (take (i + 1) bytes)
-solid_more bytes i l h k = subst Solid (sym (take_more bytes i 0 l)) (solid_push (take i bytes) (get_or bytes i 0) h k)
-
 pub parted_at : (bytes : List ℕ) (i : ℕ) → get_or bytes i 0 ≡ 32 → Parted (drop i bytes)
 parted_at [] zero h = tt
 parted_at [] (suc i) h = tt
 parted_at (b ∷ bs) zero h = h
 parted_at (b ∷ bs) (suc i) h = parted_at bs i h
-
-pub parted_end : (bytes : List ℕ) (i : ℕ) → length bytes ≤ i → Parted (drop i bytes)
-parted_end bytes i h = subst Parted (sym (drop_all i bytes h)) tt
 
 -- A field, from its blank, its number and the rest.
 module _ (bytes field digits rest : List ℕ) (blank : bytes ≡ 32 ∷ field) (split : Split field digits rest) where
@@ -116,10 +110,6 @@ rows_none bytes some none r = go r.0 r.1 r.2
     go : (ns : List ℕ) → AllNumbers ns → bytes ≡ fields ns → ⊥
     go [] a e = some (ap length e)
     go (n ∷ ns) a e = none n (fields ns) (first_field bytes n ns a e)
-
-pub rows_empty : (bytes : List ℕ) → length bytes ≡ 0 → Rows bytes
-rows_empty [] h = ([], tt, refl)
-rows_empty (b ∷ bs) h = absurd (omega arith)
 
 pub field_shorter : (bytes rest : List ℕ) (n : ℕ) → Field bytes n rest → length rest < length bytes
 field_shorter bytes rest n f =

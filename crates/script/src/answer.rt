@@ -4,7 +4,7 @@ ghost use Rattle.std.specs.Prelude.{Some};
 use fault::Fault;
 use std::fmt;
 
-/// What is answered to a line.
+/// What is answered to a line: each variant is one form of the printed line, so a Result within it would say nothing more.
 #[derive(Clone, Copy, PartialEq, Eq, Debug)]
 pub enum Answer {
     /// The row that was made, or that a row resolves to.

@@ -73,6 +73,7 @@ fn compose_line<'a>(rest: &'a [u8]) -> Option<Line<'a>>
 fn line_of<'a>(verb: Verb, rest: &'a [u8]) -> Option<Line<'a>>
     ensures { Found (Follows verb rest.now) result }
 {
+    // no table of closures: the verbs take different fields, and the arms are shorter
     match verb {
         Verb::Variable => Some(Line::Variable(one_number(rest)?)),
         Verb::Compose => compose_line(rest),

@@ -15,6 +15,7 @@ pub enum VariableFault {
     Full,
 }
 
+// Here and below each `From` is written out: a derived one has no contract, and `?` has to say which variant it makes.
 impl From<RowFault> for VariableFault {
     ghost from_gives = { λ fault r. r ≡ label_refusal fault };
 
@@ -152,6 +153,7 @@ fn on_sheet(number: u8, place: u32) -> Fault
     }
 }
 
+// The numbers are those of the printed line and of the answer to C.
 impl Cause for SheetFault {
     ghost refusal = { sheet_refusal };
 

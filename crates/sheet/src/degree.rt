@@ -16,6 +16,7 @@ pub fn gather<V: Vocabulary>(vocabulary: &V, table: &Table, classes: &Numbers) -
     // It is a call of the vocabulary that promises its laws.
     let _ = vocabulary.count();
     let mut degree = V::Degree::top();
+    // a row is asked for by its number
     for p in 0..table.row_count() {
         if let Some((f, g)) = table.words_at(classes, p) {
             degree = vocabulary.likeness(f, g).meet(degree);

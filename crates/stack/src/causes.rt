@@ -15,6 +15,7 @@ pub enum StackFault {
     Dialect(DialectFault),
 }
 
+// Written out: a derived `From` has no contract, and `?` has to say which variant it makes.
 impl From<TreeFault> for StackFault {
     ghost from_gives = { λ fault r. r ≡ Tree fault };
 

@@ -25,7 +25,7 @@ pub enum TextFault {
 }
 
 impl TextFault {
-    /// The refusal of a text that stands in the layer.
+    /// The refusal of a text that stands in the layer. The numbers are those of the printed line and of the answer to C.
     pub fn fault(self, layer: Layer) -> Fault
         ensures { result ≡ text_refusal layer self }
     {

@@ -24,6 +24,7 @@ pub enum TreeFault {
     Word(u8, Flaw),
 }
 
+// The numbers are those of the printed line and of the answer to C.
 impl Cause for TreeFault {
     ghost refusal = { tree_refusal };
 

@@ -6,7 +6,8 @@ ghost use Rattle.unification.specs.Theorems.{CrispUnifies, EquationsPossible, Or
 use scale::Scale;
 use vocabulary::Vocabulary;
 
-// Each function here does nothing: its contract is a theorem about every vocabulary, over every scale, that promises its laws.
+// Each function here does nothing: its contract is a theorem about every vocabulary, over every scale, that promises its laws. They differ
+// in the theorem alone, for which no parameter can stand.
 
 /// Likeness of terms is a similarity: reflexive at top, symmetric, transitive up to the meet.
 pub fn terms_are_similar<V: Vocabulary>(words: &V)

@@ -16,15 +16,3 @@ pub record Filled (xs : List ℕ) (i : ℕ) (of : ℕ → ℕ) : Type 0 where
 
 pub filled_none : (n : ℕ) (of : ℕ → ℕ) → Filled (replicate n 0) 0 of
 filled_none n of = record { front = λ k h. absurd (omega arith); rest = λ k h. zeros n k }
-
-pub filled_more : (xs : List ℕ) (i x : ℕ) (of : ℕ → ℕ) → i < length xs → Filled xs i of → x ≡ of i → Filled (set xs i x) (i + 1) of
-filled_more xs i x of room so e =
-    record {
-      front =
-          below_more _ _ (λ k h. let other : k ≢ i = omega arith in rw get_or-set_other (so.front k h)) (rw get_or-set_same e);
-      rest = λ k h. let other : k ≢ i = omega arith in rw get_or-set_other (so.rest k (omega arith));
-    }
-
--- What is read where something is known of a word.
-pub known_value : (n : ℕ) (of : ℕ → ℕ) (f : ℕ) (o : Option ℕ) → f < n → o ≡ known n of f → unwrap_or o 0 ≡ of f
-known_value n of f o h e = ap (λ (x : Option ℕ). unwrap_or x 0) (e ∙ known_word n of f h)

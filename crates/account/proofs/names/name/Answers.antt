@@ -1,8 +1,8 @@
-use Rattle.std.proofs.Common.{sym}
-use Rattle.account.proofs.Ascii.{signs_utf8}
+use Rattle.std.proofs.Common.{IsUtf8, sym}
+use Rattle.account.proofs.Ascii.{signs_utf8, taken}
 use Rattle.account.proofs.names.name.Goals as goal
 
-pub unreachable-requires : goal.unreachable-requires
-unreachable-requires g c =
+pub unwrap-requires : goal.unwrap-requires
+unwrap-requires g c =
     let s = c.in-Some.ensures in
-    c.in-Err.ensures.cases.0 (signs_utf8 _ (s.laws.formed c.args.word _ (sym s.value)).signs)
+    taken _ (IsUtf8 c.in-Some.spelling.now) _ c.from_utf8.result c.from_utf8.ensures.cases (signs_utf8 _ (s.laws.formed c.args.word _ (sym s.value)).signs)

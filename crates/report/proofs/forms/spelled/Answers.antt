@@ -1,14 +1,9 @@
 use Rattle.std.proofs.Common.{◌≡◌, leb, length, rules, IsUtf8, Ok, Err, Result, MatchResult, sym, ◌∙◌, subst}
 use Rattle.std.specs.Result.{IsOk}
-use Rattle.account.proofs.Ascii.{signs_utf8}
+use Rattle.account.proofs.Ascii.{signs_utf8, taken}
 use Rattle.layout.specs.Places.{entry_end, entry_start, spelling_at}
 use Rattle.std.proofs.lemmas.Bool.{cond-true, le-leb}
 use Rattle.report.proofs.forms.spelled.Goals as goal
-
--- What is not refused is taken.
-taken : {X E : Type 0} (P : X → Type 0) (Q : Type 0) (R : E → Type 0) (r : Result X E) → MatchResult r P (λ e. (Q → ⊥) × R e) → Q → IsOk r
-taken P Q R (Ok x) m q = search rules
-taken P Q R (Err e) m q = absurd (m.0 q)
 
 pub unwrap-requires : goal.unwrap-requires
 unwrap-requires c =
