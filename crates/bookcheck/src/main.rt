@@ -46,7 +46,11 @@ fn asked(rt: &HostRuntime) -> anyhow::Result<Option<Request>> {
             "--help" => help = true,
             "--floor" => {
                 let code = arguments.next().context("an option lacks its value")?;
-                floor = Some(code.as_str().parse::<u16>().context("a floor is a number from 0 to 65535")?);
+                floor = Some(
+                    code.as_str()
+                        .parse::<u16>()
+                        .context("a floor is a number from 0 to 65535")?,
+                );
             }
             "--text" => text = Some(arguments.next().context("an option lacks its value")?),
             other => {

@@ -1,5 +1,5 @@
 -- What is told of a fault is told of it under its name.
-use Rattle.std.proofs.Common.{◌≡◌, ℕ, List, IfOk, Ok, Err, Result, sym, subst}
+use Rattle.std.proofs.Common.{◌≡◌, ℕ, List, IfOk, Result, sym, subst}
 
 pub told : {X E F : Type 0} (bytes : X → List ℕ) (text : F → List ℕ) (r : Result X E) (f g : F) → f ≡ g → IfOk r (λ s. bytes s ≡ text g) → IfOk r (λ s. bytes s ≡ text f)
 told {F = F} bytes text r f g e h = subst (λ (x : F). IfOk r (λ s. bytes s ≡ text x)) (sym e) h

@@ -8,4 +8,4 @@ module _ {D : Type 0} {S : Operations D} {eq : D → D → Bool} (L : IsScale S)
   equal_by {d} {e} told holds = (L.exact d e).0 (sym (exactly d e) ∙ sym told ∙ holds)
 
   pub apart_by : {d e : D} {b : Bool} → b ≡ eq d e → b ≡ false → d ≡ e → ⊥
-  apart_by {d} {e} {b}  told fails same = both_ways b fails (told ∙ exactly d e ∙ (L.exact d e).1 same)
+  apart_by {d} {e} {b} told fails same = both_ways b fails (told ∙ exactly d e ∙ (L.exact d e).1 same)

@@ -1,5 +1,5 @@
 -- A text to which one line of a listing after another is added.
-use Rattle.std.proofs.Common.{◌≡◌, ℕ, ◌+◌, ◌≤◌, List, ◌++◌, sym, ap, ◌∙◌, append_assoc, append-nil, add-one, arith}
+use Rattle.std.proofs.Common.{◌≡◌, ℕ, ◌+◌, List, ◌++◌, sym, ap, ◌∙◌, append_assoc, append-nil, add-one}
 use Rattle.scale.specs.Told.{listing}
 
 module _ (f : ℕ → List ℕ) (front : List ℕ) where

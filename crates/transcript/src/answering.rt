@@ -7,10 +7,7 @@ use std::alloc::{AllocError, Global};
 use vocabulary::{Lexicon, Vocabulary};
 
 /// The lines of a script, parted by line ends; an empty last line is none. Nothing stands for a line that asks for nothing.
-pub fn lines_of<'t>(
-    heap: Global,
-    script: &'t [u8],
-) -> Result<Vec<Option<Line<'t>>>, AllocError> {
+pub fn lines_of<'t>(heap: Global, script: &'t [u8]) -> Result<Vec<Option<Line<'t>>>, AllocError> {
     let mut lines = Vec::new(heap);
     for line in script.split_inclusive(|b| *b == b'\n') {
         lines.push(parse_line(line.strip_suffix(b"\n").unwrap_or(line)))?;

@@ -1,8 +1,6 @@
 -- A list that is filled from its front, and is 0 behind.
-use Rattle.std.proofs.Common.{◌≡◌, ℕ, zero, suc, ◌+◌, ◌<◌, ◌≤◌, ◌≢◌, List, length, get_or, set, replicate, Option, unwrap_or, refl, ap, ◌∙◌, arith, get_or-set_other, get_or-set_same, below_more}
+use Rattle.std.proofs.Common.{◌≡◌, ℕ, zero, suc, ◌≤◌, List, get_or, replicate, refl, arith}
 use Rattle.fault.specs.Firsts.{Below}
-use Rattle.vocabulary.specs.Words.{known}
-use Rattle.vocabulary.proofs.Words.{known_word}
 
 pub zeros : (n k : ℕ) → ◌≡◌ {A = ℕ} (get_or (replicate n 0) k 0) 0
 zeros zero k = refl

@@ -1,5 +1,4 @@
-use Rattle.std.proofs.Common.{◌≡◌, leb, length, rules, IsUtf8, Ok, Err, Result, MatchResult, sym, ◌∙◌, subst}
-use Rattle.std.specs.Result.{IsOk}
+use Rattle.std.proofs.Common.{◌≡◌, leb, length, IsUtf8, sym, ◌∙◌, subst}
 use Rattle.account.proofs.Ascii.{signs_utf8, taken}
 use Rattle.layout.specs.Places.{entry_end, entry_start, spelling_at}
 use Rattle.std.proofs.lemmas.Bool.{cond-true, le-leb}

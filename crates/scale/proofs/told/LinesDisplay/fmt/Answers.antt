@@ -1,8 +1,8 @@
-use Rattle.std.proofs.Common.{rules, ◌≡◌, ℕ, List, [], ◌++◌, ◌∙◌, codes, decimal, cond, sym, refl, ap, arith, append-nil}
+use Rattle.std.proofs.Common.{rules, ◌≡◌, ℕ, List, [], ◌++◌, ◌∙◌, codes, decimal, sym, refl, append-nil}
 use Rattle.std.proofs.Output.{has_written_append, has_written_of_eq}
 use Rattle.std.proofs.lemmas.Bool.{cond-true, cond-false, eq-eqb, ne_eqb}
 use Rattle.scale.proofs.Listings.{listing_more, listing_none}
-use Rattle.scale.specs.Told.{line_text, lines_text, listing}
+use Rattle.scale.specs.Told.{line_text, listing}
 use Rattle.scale.proofs.told.LinesDisplay.fmt.Goals as goal
 use Rattle.scale.proofs.told.LinesDisplay.fmt.Goals.{then-self-line-eq1+in_ok-write, else-self-line-eq1}
 

@@ -1,4 +1,4 @@
-use Rattle.std.proofs.Common.{◌≡◌, ℕ, true, false, sym, refl, ◌∙◌, arith}
+use Rattle.std.proofs.Common.{sym, refl, ◌∙◌}
 use Rattle.sheet.proofs.Equated.{no_join, clash_answer, done_answer, occurs_answer}
 use Rattle.sheet.proofs.sheet.Sheet.equate.Goals as goal
 use Rattle.sheet.specs.Calls.{equation}
