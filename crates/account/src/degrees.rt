@@ -1,11 +1,11 @@
 ghost use Rattle.scale.specs.Told.{lines_text, mark_text};
 ghost use Rattle.std.specs.Prelude.{◌≡◌, ℕ, List, Some, refl};
 
-use scale::{Lines, Mark, Scale};
+use scale::{Coded, Lines, Mark};
 use std::fmt;
 
 /// Degrees that can be told to a reader: what is printed of each is known.
-pub trait Told: Scale + fmt::Display {
+pub trait Told: Coded + fmt::Display {
     ghost told: { Self → List ℕ };
 
     ghost printed: { (d : Self) → Self.output d ≡ Some (told d) };

@@ -18,7 +18,9 @@ fn put(bytes: &mut Vec<u8>, item: &str) -> anyhow::Result<()> {
     } else if let Some(number) = item.strip_prefix("w") {
         bytes.extend_from_slice(&number.parse::<u16>()?.to_be_bytes())?;
     } else {
-        bytes.extend_from_slice(item.trim_matches('"').as_bytes())?;
+        for byte in item.bytes().filter(|byte| *byte != b'"') {
+            bytes.push(byte)?;
+        }
     }
     Ok(())
 }

@@ -14,17 +14,15 @@ impl<T: Copy, const N: usize> List<T, N> {
         }
     }
 
-    /// The list of the values in a slice.
+    /// The list of the values in a slice: of the first `N`, where there are more.
     pub fn from_slice(values: &[T], blank: T) -> Self
-        requires { length values.now ≤ N }
-        ensures { entries result ≡ values.now }
+        ensures first { entries result ≡ take N values.now }
+        ensures all { length values.now ≤ N → entries result ≡ values.now }
     {
+        let len = values.len().min(N);
         let mut items = [blank; N];
-        items[..values.len()].copy_from_slice(values);
-        List {
-            items,
-            len: values.len(),
-        }
+        items[..len].copy_from_slice(&values[..len]);
+        List { items, len }
     }
 
     /// How many values there are.

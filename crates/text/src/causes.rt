@@ -42,21 +42,28 @@ impl TextFault {
             place,
         }
     }
-}
 
-impl fmt::Display for TextFault {
-    ghost output = { λ f. Some (says f) };
-
-    /// Writes what the fault says to a reader who is shown its place.
-    fn fmt<W: fmt::Write>(&self, f: &mut fmt::Formatter<W>) -> fmt::Result {
-        f.write_str(match self {
+    /// What the fault says to a reader who is shown its place.
+    pub fn sentence(self) -> &'static str
+        ensures { result.now ≡ says self }
+    {
+        match self {
             TextFault::Empty => "the text is empty",
             TextFault::TooLong => "the text has more than 4096 bytes",
             TextFault::TooDeep(_) => "more than 31 brackets are open with this one",
             TextFault::NoText(_) => "no text can go on so",
             TextFault::UnknownWord(_) => "there is no such word",
             TextFault::WrongArguments(_) => "the word takes another number of arguments",
-        })
+        }
+    }
+}
+
+impl fmt::Display for TextFault {
+    ghost output = { λ f. Some (says f) };
+
+    /// Writes the fault's sentence.
+    fn fmt<W: fmt::Write>(&self, f: &mut fmt::Formatter<W>) -> fmt::Result {
+        f.write_str(self.sentence())
     }
 }
 
