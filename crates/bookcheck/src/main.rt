@@ -26,12 +26,19 @@ sentence that says what is wrong first, for a text with a caret under the place.
 The exit status is then 1.
 ";
 
+/// What is to be told of a book.
+#[derive(Drop)]
+enum Task {
+    Account,
+    Above(u16),
+    Text(String),
+}
+
 /// What the arguments ask for.
 #[derive(Drop)]
 struct Request {
     path: String,
-    floor: Option<u16>,
-    text: Option<String>,
+    task: Task,
 }
 
 /// What the arguments ask for, or nothing where help is asked for; an error that says which argument is not understood.
@@ -64,17 +71,21 @@ fn asked(rt: &HostRuntime) -> anyhow::Result<Option<Request>> {
     if help {
         return Ok(None);
     }
-    Ok(Some(Request { path, floor, text }))
+    // a text goes before a floor, wherever they stand
+    let task = match (text, floor) {
+        (Some(text), _) => Task::Text(text),
+        (None, Some(code)) => Task::Above(code),
+        (None, None) => Task::Account,
+    };
+    Ok(Some(Request { path, task }))
 }
 
 /// What is to be told of the book in the bytes.
-fn told(heap: Global, bytes: &[u8], request: &Request) -> Result<String, Untold> {
-    if let Some(text) = &request.text {
-        return report_text(heap, bytes, text.as_str());
-    }
-    match request.floor {
-        Some(code) => report_above(heap, bytes, code),
-        None => report_on(heap, bytes),
+fn told(heap: Global, bytes: &[u8], task: &Task) -> Result<String, Untold> {
+    match task {
+        Task::Account => report_on(heap, bytes),
+        Task::Above(code) => report_above(heap, bytes, *code),
+        Task::Text(text) => report_text(heap, bytes, text.as_str()),
     }
 }
 
@@ -97,7 +108,7 @@ fn main(rt: HostRuntime) -> anyhow::Result<ExitCode> {
             return Ok(ExitCode::FAILURE);
         }
     };
-    match told(rt.alloc(), bytes.as_slice(), &request) {
+    match told(rt.alloc(), bytes.as_slice(), &request.task) {
         Ok(text) => {
             print!(rt; "{text}")?;
             Ok(ExitCode::SUCCESS)

@@ -54,11 +54,7 @@ pub fn checked(heap: Global, bytes: &[u8]) -> Result<Kind, Untold>
     ensures kind { IfOk result (λ k. Verdict bytes.now (Ok k)) }
     ensures told { (v : Result Kind BookFault) → Verdict bytes.now v → Checked bytes.now v result }
 {
-    // not by `map_err`: to tell a refusal may fail for want of memory, and needs the verdict
-    match check(bytes) {
-        Ok(kind) => Ok(kind),
-        Err(fault) => Err(Untold::Refused(refusal(heap, bytes, fault)?)),
-    }
+    check(bytes).try_map_err(|fault| Ok(Untold::Refused(refusal(heap, bytes, fault)?)))
 }
 
 /// What is told of a good book.

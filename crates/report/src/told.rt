@@ -12,6 +12,7 @@ pub enum Untold {
     NoMemory(AllocError),
 }
 
+// Written out: a derived `From` has no contract, and `?` has to say which variant it makes.
 impl From<AllocError> for Untold {
     ghost from_gives = { λ e r. r ≡ NoMemory e };
 

@@ -31,7 +31,7 @@ pub fn after_blank<'a>(bytes: &'a [u8]) -> Option<&'a [u8]>
 fn is_plain(digits: &[u8]) -> bool
     ensures { Decides result (Plain digits.now) }
 {
-    !digits.is_empty() && digits[0] != b'+' && (digits[0] != b'0' || digits.len() == 1)
+    !matches!(digits, [] | [b'+', ..] | [b'0', _, ..])
 }
 
 /// The number that the bytes are in decimal, with no leading zero: 0 to 65,535.
