@@ -47,10 +47,8 @@ fn floor_report<D: Told, V: Vocabulary<Degree = D> + Drop, L: Lexicon>(
     ensures { Tells (is_some (D.Scale.operations.decoded code))
         (floor_text D.Scale.operations D.Told.told (V.Vocabulary.model words) (L.Lexicon.spellings lexicon.now) code (D.Scale.operations.decoded code)) result }
 {
-    match D::from_code(code) {
-        Some(degree) => Ok(left(heap, words, lexicon, degree)?),
-        None => Err(Untold::Refused(no_degree(heap, code)?)),
-    }
+    let degree = D::from_code(code).try_ok_or_else(|| Ok(Untold::Refused(no_degree(heap, code)?)))?;
+    Ok(left(heap, words, lexicon, degree)?)
 }
 
 /// What is told of what the floor with this code leaves of a book that is offered.

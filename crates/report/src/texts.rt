@@ -37,12 +37,11 @@ fn refused_text(heap: Global, text: &str, fault: TextFault) -> Result<String, Al
 fn text_verdict(heap: Global, text: &str, verdict: Result<(), TextFault>) -> Result<String, Untold>
     ensures { Tells (is_ok verdict) (text_report text.now verdict) result }
 {
-    match verdict {
-        Ok(()) => Ok(format!(in heap;
-            "{text}\nThis is the text of one term over the words of the book.\n"
-        )?),
-        Err(fault) => Err(Untold::Refused(refused_text(heap, text, fault)?)),
-    }
+    verdict.try_map_err(|fault| Ok(Untold::Refused(refused_text(heap, text, fault)?)))?;
+    let told = format!(in heap;
+        "{text}\nThis is the text of one term over the words of the book.\n"
+    )?;
+    Ok(told)
 }
 
 /// What is told of a text over the words of a vocabulary.
