@@ -1,5 +1,7 @@
+ghost use Rattle.book.specs.Books.{layout_vocabulary};
 ghost use Rattle.book.specs.Laws.{Lawful};
 ghost use Rattle.book.specs.Likeness.{words_of};
+ghost use Rattle.layout.specs.Lexicons.{words_lexicon};
 ghost use Rattle.layout.specs.Forms.{GoodForm};
 ghost use Rattle.layout.specs.Places.{spelling_of};
 ghost use Rattle.std.specs.Prelude.{◌≡◌, ⊤};
@@ -56,6 +58,8 @@ impl<S: Scale> Vocabulary for Book<'_, S> {
 
     ghost model = { λ b. words_of S.Scale.operations b.layout.bytes.now };
 
+    ghost lawful = { λ b. layout_vocabulary S.Scale.operations S.Scale.lawful b.layout b.lawful };
+
     fn count(&self) -> u16 {
         self.layout.count() as u16
     }
@@ -71,6 +75,8 @@ impl<S: Scale> Vocabulary for Book<'_, S> {
 
 impl<S: Scale> Lexicon for Book<'_, S> {
     ghost spellings = { λ b. spelling_of b.layout.bytes.now };
+
+    ghost lawful = { λ b. words_lexicon b.layout.bytes.now b.layout.good };
 
     fn spelling(&self, word: u16) -> Option<&[u8]> {
         self.layout.spelling(word)

@@ -3,7 +3,8 @@ ghost use Rattle.layers.specs.Tables.{tabled};
 ghost use Rattle.layers.specs.Verdicts.{Verdict};
 ghost use Rattle.layers.specs.declared.causes.DialectFault.{DialectFault};
 ghost use Rattle.std.specs.Prelude.{◌≡◌, Result};
-ghost use Rattle.vocabulary.specs.Words.{IsVocabulary, known};
+ghost use Rattle.layers.specs.Spoken.{dialect_laws};
+ghost use Rattle.vocabulary.specs.Words.{known};
 
 use crate::causes::DialectFault;
 use crate::table::Table;
@@ -51,8 +52,7 @@ impl<V: Vocabulary> Dialect<V> {
 
     /// The word below that the word stands for; nothing for a number that is no word of the dialect.
     fn named(&self, word: u16) -> Option<u16>
-        ensures value { result ≡ known (tabled self.now.table).count (word_below (V.Vocabulary.model self.now.below).count (tabled self.now.table)) word }
-        ensures laws { IsVocabulary V.Degree.Scale.operations (V.Vocabulary.model self.now.below) }
+        ensures { result ≡ known (tabled self.now.table).count (word_below (V.Vocabulary.model self.now.below).count (tabled self.now.table)) word }
     {
         let count = self.below.count();
         let entry = *self.table.entries.as_slice().get(word as usize)?;
@@ -65,9 +65,9 @@ impl<V: Vocabulary> Vocabulary for Dialect<V> {
 
     ghost model = { λ t. spoken V.Degree.Scale.operations (tabled t.table) (V.Vocabulary.model t.below) };
 
+    ghost lawful = { λ t. dialect_laws V.Degree.Scale.operations (tabled t.table) (V.Vocabulary.model t.below) V.Degree.Scale.lawful (V.Vocabulary.lawful t.below) t.table.counted };
+
     fn count(&self) -> u16 {
-        // It is a call below that promises the laws below.
-        let _ = self.below.count();
         self.table.entries.len() as u16
     }
 

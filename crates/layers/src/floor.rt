@@ -1,5 +1,5 @@
 ghost use Rattle.layers.specs.Floors.{Cut, floored};
-ghost use Rattle.vocabulary.specs.Words.{IsVocabulary};
+ghost use Rattle.layers.specs.Floored.{floor_laws};
 ghost use Rattle.std.specs.Prelude.{◌≡◌};
 
 use scale::{Scale, at_most};
@@ -37,6 +37,8 @@ impl<V: Vocabulary> Vocabulary for Floor<V> {
 
     ghost model = { λ t. floored V.Degree.Scale.operations t.degree (V.Vocabulary.model t.below) };
 
+    ghost lawful = { λ t. floor_laws V.Degree.Scale.operations V.Degree.Scale.lawful t.degree (V.Vocabulary.model t.below) (V.Vocabulary.lawful t.below) };
+
     fn count(&self) -> u16 {
         self.below.count()
     }
@@ -47,7 +49,6 @@ impl<V: Vocabulary> Vocabulary for Floor<V> {
 
     fn likeness(&self, f: u16, g: u16) -> V::Degree
         ensures value { result ≡ (floored V.Degree.Scale.operations self.now.degree (V.Vocabulary.model self.now.below)).likeness f g }
-        ensures laws { IsVocabulary V.Degree.Scale.operations (floored V.Degree.Scale.operations self.now.degree (V.Vocabulary.model self.now.below)) }
         ensures cut { Cut V.Degree.Scale.operations self.now.degree ((V.Vocabulary.model self.now.below).likeness f g) result }
     {
         left_of(self.degree, self.below.likeness(f, g))

@@ -1,5 +1,4 @@
 pub mod Starts
 pub mod Tables
-pub mod Lexicons
 pub mod EntryFaults
 pub mod FormFaults

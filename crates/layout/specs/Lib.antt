@@ -3,3 +3,4 @@ pub mod Kinds
 pub mod Entries
 pub mod Forms
 pub mod Faults
+pub mod Lexicons

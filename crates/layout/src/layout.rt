@@ -1,5 +1,6 @@
 ghost use Rattle.std.specs.Prelude.{◌≡◌, ℕ, ◌+◌, ◌*◌, ◌<◌, ◌≤◌, length, drop, slice_index};
 ghost use Rattle.fault.specs.Firsts.{Below};
+ghost use Rattle.layout.specs.Lexicons.{words_lexicon};
 ghost use Rattle.layout.specs.Entries.{GoodEntry, Present};
 ghost use Rattle.layout.specs.Forms.{GoodForm};
 ghost use Rattle.layout.specs.Kinds.{number_of};
@@ -114,6 +115,8 @@ impl<'a> Layout<'a> {
 
 impl Lexicon for Layout<'_> {
     ghost spellings = { λ l. spelling_of l.bytes.now };
+
+    ghost lawful = { λ l. words_lexicon l.bytes.now l.good };
 
     fn spelling(&self, word: u16) -> Option<&[u8]> {
         self.spelling_of(word)

@@ -1,7 +1,6 @@
 ghost use Rattle.table.specs.Sheets.{sheet_of};
 ghost use Rattle.rows.specs.Stored.{at};
 ghost use Rattle.unification.specs.Tables.{gathered};
-ghost use Rattle.vocabulary.specs.Words.{IsVocabulary};
 ghost use Rattle.std.specs.Prelude.{◌≡◌, length};
 
 use scale::Scale;
@@ -10,11 +9,8 @@ use vocabulary::Vocabulary;
 
 /// The meet over the composed rows of how much the word of each is alike to that of the row that `classes` gives it.
 pub fn gather<V: Vocabulary>(vocabulary: &V, table: &Table, classes: &Numbers) -> V::Degree
-    ensures value { result ≡ gathered V.Degree.Scale.operations (V.Vocabulary.model vocabulary.now) (sheet_of table.now.rows table.now.equations) (at classes.now.of) (length (sheet_of table.now.rows table.now.equations).rows) }
-    ensures laws { IsVocabulary V.Degree.Scale.operations (V.Vocabulary.model vocabulary.now) }
+    ensures { result ≡ gathered V.Degree.Scale.operations (V.Vocabulary.model vocabulary.now) (sheet_of table.now.rows table.now.equations) (at classes.now.of) (length (sheet_of table.now.rows table.now.equations).rows) }
 {
-    // It is a call of the vocabulary that promises its laws.
-    let _ = vocabulary.count();
     let mut degree = V::Degree::top();
     // a row is asked for by its number
     for p in 0..table.row_count() {

@@ -55,8 +55,6 @@ pub fn replay<'a, V: Vocabulary, L: Lexicon>(
         ≡ drop (min (length calls.now) (length outcomes.old)) outcomes.old }
     ensures promise { Promised V.Degree.Scale.operations (V.Vocabulary.model vocabulary.now) (sheet_of result.table.rows result.table.equations) }
 {
-    // It is a call of the vocabulary that promises its laws.
-    let _ = vocabulary.count();
     let mut sheet = Sheet::new(vocabulary);
     let count = calls.len().min(outcomes.len());
     // by the index: a `zip` with `iter_mut` was tried, and what it leaves in the outcomes could not be read in the proof

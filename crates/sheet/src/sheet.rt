@@ -99,8 +99,6 @@ impl<'a, V: Vocabulary> Sheet<'a, V> {
         ensures kept { KeptOnErr result self.old.table self.new.table }
         ensures vocabulary { self.new.vocabulary ≡ self.old.vocabulary }
     {
-        // It is a call of the vocabulary that promises its laws.
-        let _ = self.vocabulary.count();
         let e = Equation { left: p, right: q };
         let classes = self.table.join(e)?;
         if gather(self.vocabulary, &self.table, &classes) == V::Degree::bottom() {

@@ -7,14 +7,14 @@ use Rattle.layers.specs.Floors.{floored}
 use Rattle.layers.specs.Tables.{tabled as entries_of}
 use Rattle.layers.specs.declared.dialect.Dialect.{Dialect}
 use Rattle.layers.specs.declared.floor.Floor.{Floor}
-use Rattle.layers.proofs.Floored.{floor_laws}
-use Rattle.layers.proofs.Spoken.{dialect_laws}
+use Rattle.layers.specs.Floored.{floor_laws}
+use Rattle.layers.specs.Spoken.{dialect_laws}
 use Rattle.tree.specs.Families.{family, IsTree}
 use Rattle.tree.specs.Paths.{tree_words}
 use Rattle.tree.specs.Tables.{tabled as family_of}
 use Rattle.tree.specs.declared.tree.Tree.{Tree}
 use Rattle.tree.proofs.Held.{tree_family}
-use Rattle.tree.proofs.Laws.{tree_laws}
+use Rattle.tree.specs.TreeLaws.{tree_laws}
 use Rattle.stack.specs.Stacks.{layered, stack_words}
 
 -- What one vocabulary says, another that says the same says.

@@ -1,3 +1,4 @@
+ghost use Rattle.text_cases.specs.Spelled.{lawful};
 ghost use Rattle.text_cases.specs.Letters.{letters};
 
 use vocabulary::Lexicon;
@@ -10,6 +11,8 @@ pub struct Letters;
 
 impl Lexicon for Letters {
     ghost spellings = { λ _. letters };
+
+    ghost lawful = { λ _. lawful };
 
     fn spelling(&self, word: u16) -> Option<&[u8]> {
         let at = usize::from(word);

@@ -5,7 +5,7 @@ use Rattle.scale.specs.Scales.{Operations, IsScale}
 use Rattle.scale.proofs.Orders.{meet_bottom}
 use Rattle.tree.specs.Families.{Family, IsFamily}
 use Rattle.tree.specs.Paths.{degree, Climb, stay, rise, Path, Apart, IsLikeness, like_below}
-use Rattle.tree.proofs.Growth.{newest_self, newest_left, earlier, by_newest, like_symmetric, like_self, like_outside, like_step, like_root}
+use Rattle.tree.specs.Growth.{newest_self, newest_left, earlier, by_newest, like_symmetric, like_self, like_outside, like_step, like_root}
 
 module _ {D : Type 0} (S : Operations D) (F : Family) where
   climb_word : {f a : ℕ} {d : D} → Climb S F f a d → f < F.count

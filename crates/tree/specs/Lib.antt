@@ -3,3 +3,5 @@ pub mod Paths
 pub mod Verdicts
 pub mod Words
 pub mod Tables
+pub mod TreeLaws
+pub mod Growth

@@ -4,7 +4,7 @@ ghost use Rattle.tree.specs.Families.{Even, IsTree, family};
 ghost use Rattle.tree.specs.Paths.{IsLikeness, like_below, tree_words};
 ghost use Rattle.tree.specs.Tables.{tabled};
 ghost use Rattle.tree.specs.Words.{words_family};
-ghost use Rattle.vocabulary.specs.Words.{IsVocabulary};
+ghost use Rattle.tree.specs.TreeLaws.{tree_laws};
 
 use crate::table::Table;
 use crate::word::Word;
@@ -86,6 +86,8 @@ impl<S: Scale> Vocabulary for Tree<S> {
 
     ghost model = { λ t. tree_words S.Scale.operations (tabled t.table) };
 
+    ghost lawful = { λ t. tree_laws S.Scale.operations S.Scale.lawful (tabled t.table) t.table.family };
+
     fn count(&self) -> u16 {
         self.table.words.len() as u16
     }
@@ -96,7 +98,6 @@ impl<S: Scale> Vocabulary for Tree<S> {
 
     fn likeness(&self, f: u16, g: u16) -> S
         ensures value { result ≡ (tree_words S.Scale.operations (tabled self.now.table)).likeness f g }
-        ensures laws { IsVocabulary S.Scale.operations (tree_words S.Scale.operations (tabled self.now.table)) }
         ensures path { IsLikeness S.Scale.operations (tabled self.now.table) f g result }
         ensures only { (d : S) → IsLikeness S.Scale.operations (tabled self.now.table) f g d → d ≡ result }
     {

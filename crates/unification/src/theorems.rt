@@ -12,58 +12,42 @@ use vocabulary::Vocabulary;
 /// Likeness of terms is a similarity: reflexive at top, symmetric, transitive up to the meet.
 pub fn terms_are_similar<V: Vocabulary>(words: &V)
     ensures { IsSimilarity V.Degree.Scale.operations (V.Vocabulary.model words.now) }
-{
-    let _ = words.count();
-}
+{}
 
 /// The degree of a class of words is known from any one of its members, and that of two classes with a common member is the meet.
 pub fn classes_have_degrees<V: Vocabulary>(words: &V)
     ensures { ClassDegrees V.Degree.Scale.operations (V.Vocabulary.model words.now) }
-{
-    let _ = words.count();
-}
+{}
 
 /// A sheet has one degree, a row one representative, and either every row has a depth or there is a cycle.
 pub fn sheets_have_degrees<V: Vocabulary>(words: &V)
     ensures { SheetsHave V.Degree.Scale.operations (V.Vocabulary.model words.now) }
-{
-    let _ = words.count();
-}
+{}
 
 /// Without a cycle the solved substitution exists, is the only one, and is the best match at the sheet's degree.
 pub fn solutions_are_best<V: Vocabulary>(words: &V)
     ensures { SolutionsAreBest V.Degree.Scale.operations (V.Vocabulary.model words.now) }
-{
-    let _ = words.count();
-}
+{}
 
 /// Something suits a sheet's equations above bottom exactly when the degree is not bottom and there is no cycle.
 pub fn sheets_are_possible<V: Vocabulary>(words: &V)
     ensures { PossibleExactly V.Degree.Scale.operations (V.Vocabulary.model words.now) }
-{
-    let _ = words.count();
-}
+{}
 
 /// A new equation is possible exactly when it makes neither a clash nor an occurs.
 pub fn equations_are_possible<V: Vocabulary>(words: &V)
     ensures { EquationsPossible V.Degree.Scale.operations (V.Vocabulary.model words.now) }
-{
-    let _ = words.count();
-}
+{}
 
 /// Where only equal words are alike, the solved substitution is a most general unifier.
 pub fn crisp_words_unify<V: Vocabulary>(words: &V)
     ensures { CrispUnifies V.Degree.Scale.operations (V.Vocabulary.model words.now) }
-{
-    let _ = words.count();
-}
+{}
 
 /// The order of the equations changes neither the degree nor the solved substitution.
 pub fn order_is_free<V: Vocabulary>(words: &V)
     ensures { OrderFree V.Degree.Scale.operations (V.Vocabulary.model words.now) }
-{
-    let _ = words.count();
-}
+{}
 
 /// Every term can be put onto every sheet, in one way, and what was put stands there.
 pub fn terms_are_put()

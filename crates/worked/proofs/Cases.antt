@@ -1,7 +1,7 @@
 -- The worked cases.
 use Rattle.std.proofs.Common.{◌≡◌, ℕ, suc, ◌<◌, List, [], ◌∷◌, get_or, Some, codes, refl, lit<, lit≤}
 use Prim.Native.String.{String}
-use Rattle.layers.proofs.Floored.{floor_laws}
+use Rattle.layers.specs.Floored.{floor_laws}
 use Rattle.scale.specs.DegreesLemmas.{same_mark}
 use Rattle.scale.specs.Laws.{mark_laws}
 use Rattle.scale.specs.Degrees.{mark_operations}

@@ -11,8 +11,8 @@ returns g c w fits =
     let V = g.V.Vocabulary.model c.args.words.now in
     let spellings = g.L.Lexicon.spellings c.args.lexicon.now in
     let list =
-    arities_listed c.arities-list.result V.arity c.count-count.result V.count c.count-count.ensures.value
-    (omega (arith, c.arities-list.ensures.len, c.count-count.ensures.laws.few)) c.arities-list.ensures.places in
+    arities_listed c.arities-list.result V.arity c.count-count.result V.count c.count-count.ensures
+    (omega (arith, c.arities-list.ensures.len, (g.met.V.Vocabulary.lawful c.args.words.now).few)) c.arities-list.ensures.places in
     let only =
     c.check_text-verdict.ensures.only w
     (subst (λ (t : List ℕ). Verdict spellings (take (c.count-count.result - 0) c.arities-list.result) t w) (sym c.as_bytes.ensures.value)

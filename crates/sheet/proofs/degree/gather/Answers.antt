@@ -14,7 +14,7 @@ loop-p-preserved g c =
     elim c.match-words_at.branch [
       | in-Some w ↦
           w.degree-is ∙ w.meet-degree.ensures
-          ∙ ap (λ d. S.meet d c.loop-p.degree) w.likeness.ensures.value
+          ∙ ap (λ d. S.meet d c.loop-p.degree) w.likeness.ensures
           ∙ more (Some (w.in-Some.f, w.in-Some.g)) w.in-Some.ensures c.loop-p.invariant
       | in_default w ↦
           w.degree-is ∙ sym (g.met.V.Degree.Scale.lawful.unit c.loop-p.degree) ∙ more None w.in_default.ensures c.loop-p.invariant

@@ -21,7 +21,7 @@ pub loop-i-preserved : goal.loop-i-preserved
 loop-i-preserved g c =
     let S = g.V.Degree.Scale.operations in
     let L = g.met.V.Degree.Scale.lawful in
-    let W = c.count.ensures.laws in
+    let W = g.met.V.Vocabulary.lawful c.args.vocabulary.now in
     let t = c.loop-i.sheet.table in
     let s = sheet_of t.rows t.equations in
     let u = sheet_of c.carry_out.new.self.table.rows c.carry_out.new.self.table.equations in
@@ -39,7 +39,7 @@ pub returns : goal.returns
 returns g c =
     let S = g.V.Degree.Scale.operations in
     let L = g.met.V.Degree.Scale.lawful in
-    let W = c.count.ensures.laws in
+    let W = g.met.V.Vocabulary.lawful c.args.vocabulary.now in
     let V = g.V.Vocabulary.model c.args.vocabulary.now in
     let M = g.L.Lexicon.spellings in
     let t = c.loop-i.sheet.table in

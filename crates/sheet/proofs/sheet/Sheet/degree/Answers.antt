@@ -9,5 +9,5 @@ returns g c =
     let S = g.V.Degree.Scale.operations in
     let t = c.args.self.now.table in
     let V = g.V.Vocabulary.model c.args.self.now.vocabulary.now in
-    subst (IsDegree S V (sheet_of t.rows t.equations)) (sym c.gather.ensures.value)
-    (gathered_degree g.met.V.Degree.Scale.lawful c.gather.ensures.laws c.classes.ensures.represents)
+    subst (IsDegree S V (sheet_of t.rows t.equations)) (sym c.gather.ensures)
+    (gathered_degree g.met.V.Degree.Scale.lawful (g.met.V.Vocabulary.lawful c.args.self.now.vocabulary.now) c.classes.ensures.represents)

@@ -12,7 +12,7 @@ returns-in_err-classes g c =
     let s = sheet_of t.rows t.equations in
     let e = equation c.args.p c.args.q in
     let p = err_from_is_err_and c.from_residual.result c.from_residual.ensures.1 in
-    let a = no_join g.met.V.Degree.Scale.lawful c.count.ensures.laws s e c.in_err-classes.field-0.0 c.in_err-classes.ensures in
+    let a = no_join g.met.V.Degree.Scale.lawful (g.met.V.Vocabulary.lawful c.args.self.now.vocabulary.now) s e c.in_err-classes.field-0.0 c.in_err-classes.ensures in
     rw (p.1, p.2) (record { answer = a.0; possible = a.1; kept = refl; vocabulary = refl })
 
 pub returns-then-eq : goal.returns-then-eq
@@ -21,7 +21,7 @@ returns-then-eq g c =
     let s = sheet_of t.rows t.equations in
     let e = equation c.args.p c.args.q in
     let a =
-    clash_answer g.met.V.Degree.Scale.lawful c.count.ensures.laws s e c.in_ok-classes.classes c.in_ok-classes.ensures c.gather.result c.gather.ensures.value
+    clash_answer g.met.V.Degree.Scale.lawful (g.met.V.Vocabulary.lawful c.args.self.now.vocabulary.now) s e c.in_ok-classes.classes c.in_ok-classes.ensures c.gather.result c.gather.ensures
     (equal_by g.met.V.Degree.Scale.lawful g.met.V.Degree.Scale.equal c.eq.ensures c.if-eq.true ∙ c.bottom.ensures) in
     record { answer = a.0; possible = a.1; kept = refl; vocabulary = refl }
 
@@ -31,7 +31,7 @@ returns g c =
     let s = sheet_of t.rows t.equations in
     let e = equation c.args.p c.args.q in
     let a =
-    done_answer g.met.V.Degree.Scale.lawful c.count.ensures.laws s e c.in_ok-classes.classes c.in_ok-classes.ensures c.gather.result c.gather.ensures.value
+    done_answer g.met.V.Degree.Scale.lawful (g.met.V.Vocabulary.lawful c.args.self.now.vocabulary.now) s e c.in_ok-classes.classes c.in_ok-classes.ensures c.gather.result c.gather.ensures
     (λ h. apart_by g.met.V.Degree.Scale.lawful g.met.V.Degree.Scale.equal c.eq.ensures c.if-eq.false (h ∙ sym c.bottom.ensures)) c.in-Some.ensures.falls (sheet_of c.commit.new.self.rows c.commit.new.self.equations) c.commit.ensures.sheet in
     record { answer = a.0; possible = a.1; kept = tt; vocabulary = refl }
 
@@ -41,6 +41,6 @@ returns-in_default g c =
     let s = sheet_of t.rows t.equations in
     let e = equation c.args.p c.args.q in
     let a =
-    occurs_answer g.met.V.Degree.Scale.lawful c.count.ensures.laws s e c.in_ok-classes.classes c.in_ok-classes.ensures c.gather.result c.gather.ensures.value
+    occurs_answer g.met.V.Degree.Scale.lawful (g.met.V.Vocabulary.lawful c.args.self.now.vocabulary.now) s e c.in_ok-classes.classes c.in_ok-classes.ensures c.gather.result c.gather.ensures
     (λ h. apart_by g.met.V.Degree.Scale.lawful g.met.V.Degree.Scale.equal c.eq.ensures c.if-eq.false (h ∙ sym c.bottom.ensures)) c.in_default.ensures in
     record { answer = a.0; possible = a.1; kept = refl; vocabulary = refl }

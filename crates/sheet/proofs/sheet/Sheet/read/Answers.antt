@@ -6,14 +6,14 @@ use Rattle.table.specs.Sheets.{sheet_of}
 
 pub read_text-requires : goal.read_text-requires
 read_text-requires g c =
-    let W = c.count-count.ensures.laws in
-    let e = taken_arities W c.count-count.result c.arities-arities.result c.count-count.ensures.value c.arities-arities.ensures.len c.arities-arities.ensures.places in
+    let W = g.met.V.Vocabulary.lawful c.args.self.now.vocabulary.now in
+    let e = taken_arities W c.count-count.result c.arities-arities.result c.count-count.ensures c.arities-arities.ensures.len c.arities-arities.ensures.places in
     subst FewEach (sym e) (few_each W)
 
 pub returns : goal.returns
 returns g c =
-    let W = c.count-count.ensures.laws in
-    let e = taken_arities W c.count-count.result c.arities-arities.result c.count-count.ensures.value c.arities-arities.ensures.len c.arities-arities.ensures.places in
+    let W = g.met.V.Vocabulary.lawful c.args.self.now.vocabulary.now in
+    let e = taken_arities W c.count-count.result c.arities-arities.result c.count-count.ensures c.arities-arities.ensures.len c.arities-arities.ensures.places in
     let t = c.args.self.now.table in
     let u = c.read_text.new.table in
     record {

@@ -4,7 +4,7 @@ use Rattle.tree.specs.Paths.{like_below}
 use Rattle.tree.specs.Tables.{tabled}
 use Rattle.tree.specs.Words.{blank}
 use Rattle.tree.specs.declared.word.Word.{Word}
-use Rattle.tree.proofs.Growth.{like_turn, like_halt, like_met}
+use Rattle.tree.specs.Growth.{like_turn, like_halt, like_met}
 use Rattle.tree.proofs.tree.Tree.climbed.Goals as goal
 
 pub returns-then-parent-high : goal.returns-then-parent-high

@@ -7,7 +7,7 @@ use Rattle.layout.specs.declared.layout.Layout.{Layout}
 use Rattle.scale.specs.Scales.{IsScale, Operations}
 use Rattle.std.proofs.lemmas.Bool.{both_ways, cases_Bool}
 use Rattle.vocabulary.specs.Words.{IsVocabulary}
-use Rattle.book.proofs.Vocabularies.{book_vocabulary}
+use Rattle.book.specs.Vocabularies.{book_vocabulary}
 
 -- Degrees that are told apart by a test are a set.
 scale_set : {D : Type 0} (S : Operations D) → IsScale S → IsSet D

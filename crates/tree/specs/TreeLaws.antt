@@ -6,7 +6,7 @@ use Rattle.vocabulary.specs.Words.{IsVocabulary}
 use Rattle.scale.proofs.Orders.{le_refl, le_trans, le_top, meet_left, meet_right, meet_glb, meet_mono, meet_bottom}
 use Rattle.tree.specs.Families.{Family, IsFamily}
 use Rattle.tree.specs.Paths.{degree, like_below, tree_words}
-use Rattle.tree.proofs.Growth.{newest_self, newest_left, newest_right, earlier, none_below, by_newest, like_symmetric, like_self, like_outside}
+use Rattle.tree.specs.Growth.{newest_self, newest_left, newest_right, earlier, none_below, by_newest, like_symmetric, like_self, like_outside}
 
 module _ {D : Type 0} (S : Operations D) (L : IsScale S) where
   -- Where x and y together are at most z, they are so met with one more degree: on the left, on the right, in the middle.

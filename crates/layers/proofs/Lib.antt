@@ -1,2 +1,0 @@
-pub mod Floored
-pub mod Spoken

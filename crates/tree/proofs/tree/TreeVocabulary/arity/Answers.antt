@@ -1,8 +1,0 @@
-use Rattle.tree.proofs.Laws.{tree_laws}
-use Rattle.tree.proofs.tree.TreeVocabulary.arity.Goals as goal
-
-pub returns-clause-laws : goal.returns-clause-laws
-returns-clause-laws g c = tree_laws _ g.met.S.Scale.lawful _ c.args.self.now.table.family
-
-pub returns-in_err-get-clause-laws : goal.returns-in_err-get-clause-laws
-returns-in_err-get-clause-laws g c = tree_laws _ g.met.S.Scale.lawful _ c.args.self.now.table.family
