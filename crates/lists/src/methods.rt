@@ -1,5 +1,6 @@
+ghost use Rattle.fault.specs.Firsts.{Below};
 ghost use Rattle.lists.specs.Entries.{entries};
-ghost use Rattle.std.specs.Prelude.{◌≡◌, ◌<◌, ◌≤◌, [], ◌∷◌, ◌++◌, length, take, MatchOption};
+ghost use Rattle.std.specs.Prelude.{◌≡◌, ◌<◌, ◌≤◌, [], ◌∷◌, ◌++◌, length, take, slice_index_or, MatchOption};
 
 use crate::list::List;
 
@@ -14,10 +15,11 @@ impl<T: Copy, const N: usize> List<T, N> {
         }
     }
 
-    /// The list of the values in a slice: of the first `N`, where there are more.
+    /// The list of the values in a slice: of the first `N`, where there are more. The blank fills what is not used.
     pub fn from_slice(values: &[T], blank: T) -> Self
         ensures first { entries result ≡ take N values.now }
         ensures all { length values.now ≤ N → entries result ≡ values.now }
+        ensures filled { Below N (λ i. slice_index_or result.items i blank ≡ slice_index_or values.now i blank) }
     {
         let len = values.len().min(N);
         let mut items = [blank; N];
@@ -30,7 +32,7 @@ impl<T: Copy, const N: usize> List<T, N> {
         ensures value { result ≡ length (entries self.now) }
         ensures bound { result ≤ N }
     {
-        self.len
+        self.as_slice().len()
     }
 
     /// The values, in their order.
