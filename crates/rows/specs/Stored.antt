@@ -1,10 +1,10 @@
-use Rattle.std.specs.Prelude.{◌≡◌, ℕ, ◌+◌, ◌*◌, ◌<◌, ◌≤◌, ◌⊎◌, List, [], map, length, Some, None, slice_index}
+use Rattle.std.specs.Prelude.{◌≡◌, ℕ, ◌+◌, ◌*◌, ◌<◌, ◌≤◌, ◌⊎◌, List, [], map, length, take, Some, None, slice_index}
 use Rattle.std.proofs.Math.Option.{Option, none, some}
 use Rattle.std.proofs.Math.ListN.{get_elem?}
 use Rattle.std.specs.declared.option.Option as answer
 use Rattle.lists.specs.Entries.{entries}
 use Rattle.lists.specs.declared.list.List as fixed
-use Rattle.rows.specs.Limits.{most_equations, most_rows}
+use Rattle.rows.specs.Limits.{most_arguments, most_equations, most_rows}
 use Rattle.rows.specs.declared.equations.Equation.{Equation}
 use Rattle.rows.specs.declared.row.Row.{Row}
 use Rattle.rows.specs.declared.row.Row.TheVariants.{Variable, Composed}
@@ -14,10 +14,23 @@ use Rattle.unification.specs.Sheets.{variable, composed}
 
 -- How rows and equations are stored.
 
+-- How many arguments a stored row has, and the slots of which the first so many hold them.
+abbrev pub count_of : Row → ℕ
+count_of (Variable x) = 0
+count_of (Composed f k xs) = k
+
+abbrev pub slots_of : Row → List ℕ
+slots_of (Variable x) = []
+slots_of (Composed f k xs) = xs
+
+-- The arguments are in the slots, and no more than a row can have.
+abbrev pub InSlots : Row → Type 0
+InSlots r = (count_of r ≤ most_arguments) × (count_of r ≤ length (slots_of r))
+
 -- The row that is stored so.
 abbrev pub row_of : Row → theory.Row
 row_of (Variable x) = variable x
-row_of (Composed f xs) = composed f (entries xs)
+row_of (Composed f k xs) = composed f (take k xs)
 
 -- The rows of a list.
 abbrev pub rows_of : {n : ℕ} → fixed.List Row n → List theory.Row

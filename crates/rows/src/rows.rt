@@ -56,7 +56,7 @@ impl Rows {
         requires { p < length (rows_of self.now.items) }
         ensures { result ≡ length (args_at (rows_of self.now.items) p) }
     {
-        self.row(p).arity()
+        self.arguments(p).len()
     }
 
     /// The arguments of row `p`.

@@ -5,7 +5,7 @@ ghost use Rattle.table.specs.Equating.{Between, Deep, DeepenAnswers, JoinAnswers
 ghost use Rattle.table.specs.Joining.{Uniform};
 ghost use Rattle.table.specs.Sheets.{sheet_of};
 ghost use Rattle.table.specs.Uniformity.{IsUniform};
-ghost use Rattle.rows.specs.Limits.{most_equations, most_rows};
+ghost use Rattle.rows.specs.Limits.{most_arguments, most_equations, most_rows};
 ghost use Rattle.rows.specs.Stored.{args_of, at, depth_at, equation_of, equations_of, pair_of, row_of, rows_of};
 ghost use Rattle.unification.specs.Closures.{IsDepth, Representative};
 ghost use Rattle.unification.specs.Putting.{Unlabelled};
@@ -18,7 +18,6 @@ use crate::causes::{BackFault, JoinFault, RowFault};
 use crate::classing::Classing;
 use crate::closing::Closing;
 use crate::rebuilding::classes_of;
-use lists::List;
 use rows::{
     Equation, Equations, LABELS, MOST_EQUATIONS, MOST_ROWS, Numbers, Row, Rows, SLOTS, find_outside,
 };
@@ -192,7 +191,7 @@ impl Table {
             return Err(RowFault::Full);
         }
         let depth = self.depth_above(rows);
-        self.push(Row::Composed(word, List::from_slice(rows, 0)), depth);
+        self.push(Row::Composed(word, rows.len() as u8, slots(rows)), depth);
         Ok(n as u16)
     }
 
@@ -308,4 +307,15 @@ fn first_missing(rows: &[u16], n: usize) -> Option<usize>
     ensures { MatchOption result (Below (length rows.now) (λ k. slice_index rows.now k < n)) (First1 (length rows.now) (λ k. slice_index rows.now k < n)) }
 {
     rows.iter().position(|p| *p as usize >= n)
+}
+
+/// The numbers, and then zeros in the other slots.
+fn slots(rows: &[u16]) -> [u16; SLOTS]
+    requires { length rows.now ≤ most_arguments }
+    ensures size { length result ≡ most_arguments }
+    ensures items { take (length rows.now) result ≡ rows.now }
+{
+    let mut slots = [0; SLOTS];
+    slots[..rows.len()].copy_from_slice(rows);
+    slots
 }
