@@ -58,7 +58,8 @@ impl<'r> Classing<'r> {
         let rows = self.rows;
         for p in (0..rows.len()).rev() {
             let q = self.classes.of(p);
-            if rows.arity(p) == rows.arity(q) {
+            // a row agrees with itself
+            if q != p && rows.arity(p) == rows.arity(q) {
                 if let Some(k) = self.parting(p, q) {
                     return Some((rows.argument(p, k), rows.argument(q, k)));
                 }

@@ -79,7 +79,9 @@ impl<'r> Closing<'r> {
             (λ p. Differ s.rows (length s.rows) c p (at c p)) }
     {
         let Classing { rows, classes } = self.classing;
-        (0..rows.len()).find(|&p| rows.is_composed(p) && rows.arity(p) != rows.arity(classes.of(p)))
+        (0..rows.len()).find(|&p| classes.of(p) != p
+            && rows.is_composed(p)
+            && rows.arity(p) != rows.arity(classes.of(p)))
     }
 
     /// Joins the classes of arguments in one place until nothing is apart; each joining leaves one class less.

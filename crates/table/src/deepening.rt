@@ -42,8 +42,13 @@ impl<'r> Deepening<'r> {
             ((at self.now.depths.of p ≡ 0)
             × Ready (rows_of self.now.classing.rows.now.items) self.now.classing.classes.of self.now.depths.of p) }
     {
-        let arguments = self.classing.rows.arguments(p);
-        self.depths.of(p) == 0 && arguments.iter().all(|x| self.has_depth(*x as usize))
+        self.depths.of(p) == 0
+            && self
+                .classing
+                .rows
+                .arguments(p)
+                .iter()
+                .all(|x| self.has_depth(*x as usize))
     }
 
     /// A row that is ready for a depth.
