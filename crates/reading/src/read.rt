@@ -55,8 +55,12 @@ pub fn read_text<L: Lexicon>(
     ensures uniform { IsUniform table.old.rows table.old.equations table.old.classes → IsUniform table.new.rows table.new.equations table.new.classes }
 {
     check_text(text, lexicon, arities)?;
-    let mut read = *table;
-    let row = read_rows(&mut read, &Source::new(text), lexicon, arities)?;
-    *table = read;
-    Ok(row)
+    let before = *table;
+    match read_rows(table, &Source::new(text), lexicon, arities) {
+        Ok(row) => Ok(row),
+        Err(fault) => {
+            *table = before;
+            Err(fault.into())
+        }
+    }
 }
