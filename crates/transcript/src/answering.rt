@@ -8,7 +8,9 @@ use vocabulary::{Lexicon, Vocabulary};
 
 /// The lines of a script, parted by line ends; an empty last line is none. Nothing stands for a line that asks for nothing.
 pub fn lines_of<'t>(heap: Global, script: &'t [u8]) -> Result<Vec<Option<Line<'t>>>, AllocError> {
-    let mut lines = Vec::new(heap);
+    // room for just these lines: pushing alone takes up to twice as much
+    let count = script.split_inclusive(|b| *b == b'\n').count();
+    let mut lines = Vec::with_capacity(heap, count)?;
     for line in script.split_inclusive(|b| *b == b'\n') {
         lines.push(parse_line(line.strip_suffix(b"\n").unwrap_or(line)))?;
     }
