@@ -55,8 +55,9 @@ pub fn read_text<L: Lexicon>(
     ensures uniform { IsUniform table.old.rows table.old.equations table.old.classes → IsUniform table.new.rows table.new.equations table.new.classes }
 {
     check_text(text, lexicon, arities)?;
+    let source = Source::new(text);
     let before = *table;
-    match read_rows(table, &Source::new(text), lexicon, arities) {
+    match read_rows(table, &source, lexicon, arities) {
         Ok(row) => Ok(row),
         Err(fault) => {
             *table = before;

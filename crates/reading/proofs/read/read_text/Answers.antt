@@ -21,7 +21,7 @@ returns-in-Ok g c =
     let w = c.read_rows.new.table in
     let u = sheet_of w.rows w.equations in
     let a = c.in_ok-check_text.ensures.verdict in
-    let rows = rw c.new.ensures at c.in-Ok.ensures.rows in
+    let rows = rw c.new-source.ensures at c.in-Ok.ensures.rows in
     let h : ReadGives (g.L.Lexicon.spellings c.args.lexicon.now) c.args.arities.now s c.args.text.now (Ok c.in-Ok.row) u = (a, rows a, table_short w) in
     record { answer = h; kept = tt; only = λ q v k. read_settled _ _ _ s (table_coherent t) (Ok c.in-Ok.row) q u v h k; uniform = c.in-Ok.ensures.uniform }
 
@@ -30,6 +30,6 @@ returns-in-Err g c =
     let t = c.args.table.now in
     let s = sheet_of t.rows t.equations in
     let a = c.in_ok-check_text.ensures.verdict in
-    let rows = rw c.new.ensures at c.in-Err.ensures.rows in
+    let rows = rw c.new-source.ensures at c.in-Err.ensures.rows in
     let h : ReadGives (g.L.Lexicon.spellings c.args.lexicon.now) c.args.arities.now s c.args.text.now (Err c.into.result) s = rw c.into.ensures (a, rows a, refl) in
     record { answer = h; kept = refl; only = λ q v k. read_settled _ _ _ s (table_coherent t) (Err c.into.result) q s v h k; uniform = λ u. u }
