@@ -5,8 +5,9 @@ use lib.ListN.{get_elem?}
 use Rattle.std.proofs.lemmas.List.{get_or-map, get_or_default, length-map}
 use Rattle.lists.specs.Entries.{entries}
 use Rattle.rows.specs.Limits.{most_rows}
-use Rattle.rows.specs.Stored.{Lower, args_at, args_of, row_of, rows_of, word_of}
+use Rattle.rows.specs.Stored.{InSlots, Lower, Slots, args_at, args_of, row_of, rows_of, word_of}
 use Rattle.rows.specs.declared.numbers.Numbers.{Numbers}
+use Rattle.rows.specs.declared.row.Row.{Row}
 use Rattle.rows.specs.declared.rows.Rows.{Rows}
 use Rattle.unification.proofs.Reading.{at_get_d, at_within}
 use Rattle.unification.specs.Sheets as theory
@@ -57,6 +58,19 @@ lower_pushed rows r l k p i =
       | inl e ↦ subst (λ (z : Option theory.Row). i < length (args_of z) → get_or (args_of z) i 0 < p) (sym e) (l p i)
       | inr b ↦ subst (λ (z : Option theory.Row). i < length (args_of z) → get_or (args_of z) i 0 < p) (sym b.1) (λ h. let e = b.0 in let m = k i h in omega arith)
     ]
+
+-- Slots of one row more, and of the first rows.
+pub slots_pushed : (rows : List Row) (r : Row) → Slots rows → InSlots r → Slots (rows ++ (r ∷ []))
+slots_pushed [] r s k zero h = k
+slots_pushed [] r s k (suc p) h = absurd (omega arith)
+slots_pushed (x ∷ rows) r s k zero h = s zero (omega arith)
+slots_pushed (x ∷ rows) r s k (suc p) h = slots_pushed rows r (λ q l. s (suc q) (omega arith)) k p (omega arith)
+
+pub slots_cut : (rows : List Row) (n : ℕ) → Slots rows → Slots (take n rows)
+slots_cut rows zero s p h = absurd (omega arith)
+slots_cut [] (suc n) s p h = absurd (omega arith)
+slots_cut (x ∷ rows) (suc n) s zero h = s zero (omega arith)
+slots_cut (x ∷ rows) (suc n) s (suc p) h = slots_cut rows n (λ q l. s (suc q) (omega arith)) p (omega arith)
 
 -- The first of the rows.
 taken_at : (rows : List theory.Row) (k p : ℕ) → (get_elem? (take k rows) p ≡ get_elem? rows p) ⊎ (get_elem? (take k rows) p ≡ none)

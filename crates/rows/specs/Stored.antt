@@ -1,4 +1,4 @@
-use Rattle.std.specs.Prelude.{◌≡◌, ℕ, ◌+◌, ◌*◌, ◌<◌, ◌≤◌, ◌⊎◌, List, [], map, length, take, Some, None, slice_index}
+use Rattle.std.specs.Prelude.{◌≡◌, ℕ, ◌+◌, ◌*◌, ◌<◌, ◌≤◌, ◌⊎◌, List, [], map, length, take, Some, None, slice_index, slice_index_or}
 use Rattle.std.proofs.Math.Option.{Option, none, some}
 use Rattle.std.proofs.Math.ListN.{get_elem?}
 use Rattle.std.specs.declared.option.Option as answer
@@ -26,6 +26,10 @@ slots_of (Composed f k xs) = xs
 -- The arguments are in the slots, and no more than a row can have.
 abbrev pub InSlots : Row → Type 0
 InSlots r = (count_of r ≤ most_arguments) × (count_of r ≤ length (slots_of r))
+
+-- This holds of each row.
+abbrev pub Slots : List Row → Type 0
+Slots rows = (p : ℕ) → p < length rows → InSlots (slice_index_or rows p (Variable 0))
 
 -- The row that is stored so.
 abbrev pub row_of : Row → theory.Row

@@ -1,7 +1,8 @@
 ghost use Rattle.std.specs.Prelude.{◌≡◌, ◌<◌, ◌≤◌, [], ◌∷◌, ◌++◌, map, length, take, Decides, slice_index};
 ghost use Rattle.fault.specs.Firsts.{Below};
+ghost use Rattle.lists.specs.Entries.{entries};
 ghost use Rattle.rows.specs.Limits.{most_rows};
-ghost use Rattle.rows.specs.Stored.{Lower, args_at, args_of, rank, row_of, rows_of, word_of};
+ghost use Rattle.rows.specs.Stored.{InSlots, Lower, Slots, args_at, args_of, rank, row_of, rows_of, word_of};
 ghost use Rattle.unification.specs.Closures.{kind};
 ghost use Rattle.std.proofs.Math.ListN.{get_elem?};
 ghost use Rattle.std.proofs.Math.Option.{some};
@@ -14,6 +15,7 @@ use lists::List;
 #[derive(Clone, Copy)]
 pub struct Rows {
     items: List<Row, MOST_ROWS>,
+    ghost slots: { Slots (entries items) },
     ghost lower: { Lower (rows_of items) },
 }
 
@@ -103,6 +105,7 @@ impl Rows {
     /// One more row, after the last.
     pub fn push(&mut self, row: Row)
         requires room { length (rows_of self.old.items) < most_rows }
+        requires slots { InSlots row }
         requires lower { Below (length (args_of (some (row_of row)))) (λ i. slice_index (args_of (some (row_of row))) i < length (rows_of self.old.items)) }
         ensures { rows_of self.new.items ≡ rows_of self.old.items ++ (row_of row ∷ []) }
     {

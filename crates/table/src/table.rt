@@ -6,7 +6,7 @@ ghost use Rattle.table.specs.Joining.{Uniform};
 ghost use Rattle.table.specs.Sheets.{sheet_of};
 ghost use Rattle.table.specs.Uniformity.{IsUniform};
 ghost use Rattle.rows.specs.Limits.{most_arguments, most_equations, most_rows};
-ghost use Rattle.rows.specs.Stored.{args_of, at, depth_at, equation_of, equations_of, pair_of, row_of, rows_of};
+ghost use Rattle.rows.specs.Stored.{InSlots, args_of, at, depth_at, equation_of, equations_of, pair_of, row_of, rows_of};
 ghost use Rattle.unification.specs.Closures.{IsDepth, Representative};
 ghost use Rattle.unification.specs.Putting.{Unlabelled};
 ghost use Rattle.unification.specs.Sheets.{At, Fits, IsCoherent, appended, equated, fresh, kept, variable};
@@ -120,6 +120,7 @@ impl Table {
     /// One more row, after the last, with its depth.
     fn push(&mut self, row: Row, depth: u16)
         requires room { length (rows_of self.old.rows.items) < most_rows }
+        requires slots { InSlots row }
         requires fits { Fits (sheet_of self.old.rows self.old.equations) (row_of row) }
         requires above { Below (length (args_of (some (row_of row)))) (λ i. depth_at self.old.classes.of self.old.depths.of (slice_index (args_of (some (row_of row))) i) < depth) }
         requires shallow { depth ≤ length (rows_of self.old.rows.items) + 1 }
