@@ -2,8 +2,9 @@ ghost use Rattle.std.specs.Prelude.{◌≡◌, ◌≤◌, length, ⊤};
 
 use std::alloc::AllocError;
 
-/// A list of up to `N` values in fixed memory: the first `len` of the items, the others are of no account. It is the one buffer with a
-/// length beside it: the matcher has no heap, and a list that is `Copy` is kept and put back without a call that can fail.
+/// A list of up to `N` values in fixed memory: the first `len` of the items, the others are of no account. But for a row, which counts its
+/// own arguments, each buffer with a length beside it is one: the matcher has no heap, and a list that is `Copy` is kept and put back
+/// without a call that can fail.
 pub struct List<T, const N: usize> {
     pub(crate) items: [T; N],
     pub(crate) len: usize,

@@ -1,17 +1,17 @@
 -- What the loop over the words of a text keeps.
-use Rattle.std.proofs.Common.{◌≡◌, ℕ, ◌-◌, true, List, [], ◌∷◌, ◌++◌, length, get_or, take, drop, Ok, Err, Option, Result, MatchOption, MatchResult, is_ok, None, Some, sym, refl, ap, ◌∙◌, subst, append_assoc, append-nil, arith, Bor}
+use Rattle.std.proofs.Common.{◌≡◌, ℕ, ◌-◌, ◌<◌, true, List, [], ◌∷◌, ◌++◌, length, get_or, take, drop, Ok, Err, Option, Result, MatchResult, is_ok, None, Some, sym, refl, ap, ◌∙◌, subst, append_assoc, append-nil, arith, Bor}
 use Rattle.std.proofs.ByRecursion.{All-push, All-weaker}
-use Rattle.std.specs.Option.{option_copied}
+use Rattle.std.specs.Result.{result_and}
 use Rattle.std.specs.Slice.{IsItemAt}
 use Rattle.std.specs.List.{AllByRecursion}
 use Rattle.vocabulary.specs.Spellings.{Spells, IsLexicon}
 use Rattle.text.specs.declared.causes.TextFault.{TextFault}
-use Rattle.text.specs.declared.causes.TextFault.TheVariants.{WrongArguments}
+use Rattle.text.specs.declared.causes.TextFault.TheVariants.{UnknownWord, WrongArguments}
 use Rattle.text.specs.declared.token.Token.{Token}
 use Rattle.text.specs.declared.token.Token.TheVariants.{Word}
 use Rattle.text.specs.declared.token.SyntaxFault.{SyntaxFault}
 use Rattle.text.specs.Listings.{unlisted, occurs}
-use Rattle.text.specs.Lookups.{FirstAt, Lacking, Arity, Sure, WordsRefused}
+use Rattle.text.specs.Lookups.{FirstAt, Told, Lacking, Arity, Sure, WordsRefused}
 use Rattle.text.specs.Meanings.{Known, Fitting}
 use Rattle.text.specs.Occurrences.{Occurrence, words}
 use Rattle.text.specs.Phrases.{Phrase, Phrases, count, bytes, bracketed, Sound, AllSound}
@@ -23,15 +23,22 @@ use Rattle.text.proofs.Walk.{Named, WordsLeft, advance, named, none_left, remain
 abbrev pub Counts : List ℕ → ℕ → Type 0
 Counts bytes n = (ps : Phrases) (behind : List ℕ) → AllSound ps → Ended behind → bytes ≡ bracketed ps ++ behind → n ≡ count ps
 
+-- what is read at a place of the list stands there
+pub item_by : (xs : List ℕ) (i : ℕ) (b : Bor ℕ) → IsItemAt xs i (Some b) → (i < length xs) × (get_or xs i 0 ≡ b.now)
+item_by xs i b read = (read.3.0, sym (read.4 (omega arith) 0))
+
 module _ (spellings : ℕ → Option (List ℕ)) (arities : List ℕ) where
-  -- what the list of arities has at the one word that is spelled so
-  pub arity_by : (s : List ℕ) (w : ℕ) → IsLexicon spellings → Spells spellings w s → (r : Option (Bor ℕ)) → IsItemAt arities w r → MatchOption (option_copied r) (Lacking spellings arities s) (Arity spellings arities s)
-  arity_by s w laws spells None read = λ n has other. omega (arith, read.3, laws.single n w s other spells)
-  arity_by s w laws spells (Some a) read = record { number = w; spells = spells; has = read.3.0; takes = sym (read.4 (omega arith) 0); single = λ v u p q. laws.single v u s p q }
+  -- the vocabulary does not have the one word that is spelled so
+  pub lacking_by : (s : List ℕ) (w : ℕ) → IsLexicon spellings → Spells spellings w s → IsItemAt arities w None → Lacking spellings arities s
+  lacking_by s w laws spells read = λ n has other. omega (arith, read.3, laws.single n w s other spells)
+
+  -- it has it, and this is how many arguments it takes
+  pub arity_by : (s : List ℕ) (w a : ℕ) → IsLexicon spellings → Spells spellings w s → w < length arities → get_or arities w 0 ≡ a → Arity spellings arities s a
+  arity_by s w a laws spells has takes = record { number = w; spells = spells; has = has; takes = takes; single = λ v u p q. laws.single v u s p q }
 
   -- the refusal is that of the first word that does not fit
   abbrev pub Misfit : List Occurrence → TextFault → Type 0
-  Misfit ws f = (q : ℕ) × (f ≡ WrongArguments q) × FirstAt (Fitting spellings arities) ws q
+  Misfit ws = Told (Fitting spellings arities) ws WrongArguments
 
   -- the words before `at` are known, and the others are left; those before fit, or else the first of all that does not fit is told
   pub record Walked (text : List ℕ) (at : ℕ) (ws : List Occurrence) (fit : Result (Unit {0}) TextFault) : Type 0 where
@@ -79,6 +86,31 @@ module _ (spellings : ℕ → Option (List ℕ)) (arities : List ℕ) where
           at = refl;
         }
 
+        misfit_here : AllByRecursion (Sure spellings arities) walked.before → (Fitting spellings arities found → ⊥) → Misfit ws (WrongArguments at)
+        misfit_here sure fails = (
+          at,
+          refl,
+          record {
+            word = found;
+            first = record {
+              before = walked.before;
+              behind = next.others;
+              split = split_here;
+              good = All-weaker (Sure spellings arities) (Fitting spellings arities) (λ o s. s.0) walked.before sure;
+              fails = fails;
+            };
+            at = refl;
+          },
+        )
+
+        -- a word that is not known does not fit
+        pub unknown_unfit : Lacking spellings arities w.now → MatchResult {T = Unit {0}} (result_and fit (Err (WrongArguments at))) (λ _. AllByRecursion (Sure spellings arities) ws) (Misfit ws)
+        unknown_unfit lacks = go fit walked.fits
+          where
+            go : (g : Result (Unit {0}) TextFault) → MatchResult g (λ _. AllByRecursion (Sure spellings arities) walked.before) (Misfit ws) → MatchResult {T = Unit {0}} (result_and g (Err (WrongArguments at))) (λ _. AllByRecursion (Sure spellings arities) ws) (Misfit ws)
+            go (Ok x) f = misfit_here f (λ k. lacks k.number k.has k.spells)
+            go (Err e) f = f
+
         module _ (a : ℕ) (arity : Arity spellings arities w.now a) where
           on_by : (g : Result (Unit {0}) TextFault) → MatchResult g (λ _. AllByRecursion (Sure spellings arities) (walked.before ++ found ∷ [])) (Misfit ws) → Walked text p.1 ws g
           on_by g fits = record {
@@ -118,34 +150,22 @@ module _ (spellings : ℕ → Option (List ℕ)) (arities : List ℕ) where
 
           -- it is the first that does not fit
           pub walked_misfit : is_ok fit ≡ true → (n : ℕ) → Counts (take (length text - p.1) (drop p.1 text)) n → (a ≡ n → ⊥) → Walked text p.1 ws (Err (WrongArguments at))
-          walked_misfit h n c ne = on_by (Err (WrongArguments at)) (
-            at,
-            refl,
-            record {
-              word = found;
-              first = record {
-                before = walked.before;
-                behind = next.others;
-                split = split_here;
-                good = All-weaker (Sure spellings arities) (Fitting spellings arities) (λ o s. s.0) walked.before (go fit walked.fits h);
-                fails = misfit n c ne;
-              };
-              at = refl;
-            },
-          )
+          walked_misfit h n c ne = on_by (Err (WrongArguments at)) (misfit_here (go fit walked.fits h) (misfit n c ne))
             where
               go : (g : Result (Unit {0}) TextFault) → MatchResult g (λ _. AllByRecursion (Sure spellings arities) walked.before) (Misfit ws) → is_ok g ≡ true → AllByRecursion (Sure spellings arities) walked.before
               go (Ok x) f h = f
               go (Err e) f h = cc
 
-      -- the answer, once all words were met
-      pub walked_all : (f : SyntaxFault) → NoToken text at f → MatchResult fit (λ _. AllByRecursion (Sure spellings arities) ws) (WordsRefused spellings arities ws)
-      walked_all f n = go fit walked.fits
-        where
-          all : ws ≡ walked.before
-          all = met_all f n
+      -- once all words were met
+      pub all_known : (f : SyntaxFault) → NoToken text at f → AllByRecursion (Known spellings arities) ws
+      all_known f n = subst (AllByRecursion (Known spellings arities)) (sym (met_all f n)) walked.known
 
-          go : (g : Result (Unit {0}) TextFault) → MatchResult g (λ _. AllByRecursion (Sure spellings arities) walked.before) (Misfit ws) → MatchResult g (λ _. AllByRecursion (Sure spellings arities) ws) (WordsRefused spellings arities ws)
-          go (Ok x) h = subst (AllByRecursion (Sure spellings arities)) (sym all) h
-          go (Err e) h =
-              subst (WordsRefused spellings arities ws) (sym h.1) (subst (AllByRecursion (Known spellings arities)) (sym all) walked.known, h.2)
+      pub all_fit : (f : SyntaxFault) → NoToken text at f → MatchResult fit (λ _. AllByRecursion (Sure spellings arities) ws) (Misfit ws)
+      all_fit f n =
+          subst (λ l. MatchResult fit (λ _. AllByRecursion (Sure spellings arities) l) (Misfit ws)) (sym (met_all f n)) walked.fits
+
+  -- that a word is not known is told first
+  pub told_in_order : (ws : List Occurrence) (known fit : Result (Unit {0}) TextFault) → MatchResult known (λ _. AllByRecursion (Known spellings arities) ws) (Told (Known spellings arities) ws UnknownWord) → MatchResult fit (λ _. AllByRecursion (Sure spellings arities) ws) (Misfit ws) → MatchResult {T = Unit {0}} (result_and known fit) (λ _. AllByRecursion (Sure spellings arities) ws) (WordsRefused spellings arities ws)
+  told_in_order ws (Ok x) (Ok y) k f = f
+  told_in_order ws (Ok x) (Err e) k f = subst (WordsRefused spellings arities ws) (sym f.1) (k, f.2)
+  told_in_order ws (Err e) fit k f = subst (WordsRefused spellings arities ws) (sym k.1) k.2

@@ -12,6 +12,10 @@ pub record FirstAt (P : Occurrence → Type 0) (ws : List Occurrence) (p : ℕ) 
   pub first : FirstOf P ws word
   pub at : word.place ≡ p
 
+-- How a demand on words is refused: for this cause, at the first of them that does not meet it.
+abbrev pub Told : (Occurrence → Type 0) → List Occurrence → (ℕ → TextFault) → TextFault → Type 0
+Told P ws cause f = (p : ℕ) × (f ≡ cause p) × FirstAt P ws p
+
 module _ (spellings : ℕ → Option (List ℕ)) (arities : List ℕ) where
   -- No word of the vocabulary is spelled so.
   abbrev pub Lacking : List ℕ → Type 0

@@ -17,7 +17,8 @@ impl<L: Lexicon> Signature<'_, L> {
             (Lacking (L.Lexicon.spellings self.now.lexicon.now) self.now.arities.now spelling.now)
             (Arity (L.Lexicon.spellings self.now.lexicon.now) self.now.arities.now spelling.now) }
     {
-        let word = self.lexicon.word(spelling)?;
-        self.arities.get(usize::from(word)).copied()
+        let word = usize::from(self.lexicon.word(spelling)?);
+        let arity = self.arities.get(word)?;
+        Some(*arity)
     }
 }

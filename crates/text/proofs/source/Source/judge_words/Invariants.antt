@@ -2,7 +2,7 @@ use Rattle.std.proofs.Common.{◌≡◌, ◌-◌, ◌≤◌, length}
 use Rattle.text.specs.Occurrences.{words}
 use Rattle.text.specs.Phrases.{Phrase, Sound, bytes}
 use Rattle.text.proofs.Passing.{Walked}
-use Rattle.text.proofs.source.Source.check_words.Given as goal
+use Rattle.text.proofs.source.Source.judge_words.Given as goal
 
 abbrev pub invariant-loop-token : goal.invariant-loop-token
 invariant-loop-token g l = record {
