@@ -69,7 +69,8 @@ impl Table {
     pub fn row(&self, p: u16) -> Option<Row>
         ensures { MatchOption result (length (sheet_of self.now.rows self.now.equations).rows ≤ p) (λ x. At (sheet_of self.now.rows self.now.equations) p (row_of x)) }
     {
-        self.rows.as_slice().get(p as usize).copied()
+        let row = self.rows.as_slice().get(p as usize)?;
+        Some(*row)
     }
 
     /// The representative of row `p`; nothing where there is no such row.

@@ -1,4 +1,4 @@
-use Rattle.std.proofs.Common.{reverse, ap, arith}
+use Rattle.std.proofs.Common.{arith, rules, tests}
 use Rattle.std.proofs.lemmas.Result.{err_from_is_err_and}
 use Rattle.table.specs.Sheets.{sheet_of}
 use Rattle.reading.proofs.Progress.{progress_due, progress_more, progress_some, progress_none, rows_refused}
@@ -6,7 +6,7 @@ use Rattle.reading.proofs.Steps.{comes_whole, comes_due}
 use Rattle.reading.proofs.read.read_rows.Goals as goal
 
 pub loop-next-init : goal.loop-next-init
-loop-next-init g c = record { within = omega arith; progress = λ a. progress_none _ _ _ _ a _ (ap reverse c.new-opened.ensures); uniform = λ u. u }
+loop-next-init g c = record { within = omega arith; progress = λ a. progress_none _ _ _ _ a _ (search (rules, tests)); uniform = λ u. u }
 
 pub take-requires-clause-due : goal.take-requires-clause-due
 take-requires-clause-due g c =

@@ -1,4 +1,4 @@
-use Rattle.std.proofs.Common.{◌≡◌, ℕ, ◌+◌, ◌<◌, List, map, length, get_or, refl, sym, ap, ◌∙◌, subst, arith}
+use Rattle.std.proofs.Common.{◌≡◌, ℕ, ◌+◌, ◌<◌, List, map, length, get_or, refl, sym, ap, ◌∙◌, subst, arith, rules, tests}
 use mathlib.Core.Option.{some}
 use denote.Bor.{Bor}
 use lib.ListN.{get_elem?}
@@ -13,7 +13,12 @@ use Rattle.table.proofs.Rebuilt.{SidesTo, left_row, right_row, sides_all, sides_
 use Rattle.table.proofs.rebuilding.join_sides.Goals as goal
 use Rattle.table.specs.Joining.{Sides, Sound, merged}
 use Rattle.table.specs.Sheets.{sheet_of}
+use Rattle.unification.specs.Sheets as theory
 use Rattle.unification.specs.Sheets.{IsCoherent}
+
+-- What came of merging x and y came of merging u and v, where these are the same numbers.
+merged_as : (rows : List theory.Row) (k new : List ℕ) (x y u v : ℕ) → new ≡ merged rows k x y → x ≡ u → y ≡ v → new ≡ merged rows k u v
+merged_as rows k new x y u v e p q = cc
 
 -- The equation at a place of the slice is that of the sheet.
 found : (equations : Equations) (items : List Equation) → items ≡ entries equations → (i : ℕ) → i < length items → get_elem? (equations_of equations) i ≡ some (equation_of (get_or items i (record { left = 0; right = 0 })))
@@ -39,9 +44,11 @@ merge-requires c =
     let f = found c.args.equations.now c.as_slice-e-items.result.now c.as_slice-e-items.ensures c.loop-e.e-index c.loop-e-test.true in
     let r = sym c.loop-e.invariant.rows in
     let e = get_or c.as_slice-e-items.result.now c.loop-e.e-index (record { left = 0; right = 0 }) in
+    let left : e.left < length (rows_of c.loop-e.classing.rows.now.items) = subst (λ (z : Rows). e.left < length (rows_of z.items)) r (left_row I _ refl k.of (long rows k) c.loop-e.e-index _ f) in
+    let right : e.right < length (rows_of c.loop-e.classing.rows.now.items) = subst (λ (z : Rows). e.right < length (rows_of z.items)) r (right_row I _ refl k.of (long rows k) c.loop-e.e-index _ f) in
     record {
-      left = subst (λ (z : Rows). e.left < length (rows_of z.items)) r (left_row I _ refl k.of (long rows k) c.loop-e.e-index _ f);
-      right = subst (λ (z : Rows). e.right < length (rows_of z.items)) r (right_row I _ refl k.of (long rows k) c.loop-e.e-index _ f);
+      left = search (rules, tests, left);
+      right = search (rules, tests, right);
     }
 
 pub loop-e-preserved : goal.loop-e-preserved
@@ -55,7 +62,7 @@ loop-e-preserved c =
     let e = equation_of (get_or c.as_slice-e-items.result.now i (record { left = 0; right = 0 })) in
     let f = found c.args.equations.now c.as_slice-e-items.result.now c.as_slice-e-items.ensures i c.loop-e-test.true in
     let r = c.loop-e.invariant.rows in
-    let m = sym (c.merge.ensures.classes ∙ ap (λ (z : Rows). merged (rows_of z.items) k.of e.left e.right) r) in
+    let m = sym (merged_as (rows_of c.loop-e.classing.rows.now.items) k.of _ _ _ e.left e.right c.merge.ensures.classes (search (rules, tests)) (search (rules, tests)) ∙ ap (λ (z : Rows). merged (rows_of z.items) k.of e.left e.right) r) in
     record {
       rows = ap (λ (z : Bor Rows). z.now) c.merge.ensures.rows ∙ r;
       sound = subst (λ (z : List ℕ). Sound s n z) m (sound_more I n refl k.of (long rows k) i e f c.loop-e.invariant.sound);

@@ -1,4 +1,4 @@
-use Rattle.std.proofs.Common.{ℕ, List, length, sym, subst}
+use Rattle.std.proofs.Common.{ℕ, List, length, subst, rules, tests}
 use Rattle.rows.specs.declared.numbers.Numbers.{Numbers}
 use Rattle.std.specs.Prelude.{Ok, Err, Result, MatchResult}
 use Rattle.std.specs.Result.{result_ok}
@@ -21,5 +21,5 @@ pub returns : goal.returns
 returns c =
     let t = c.args.self.now in
     let k = c.args.classes.now.of in
-    subst (DeepenAnswers (after t c.args.e c.requires.between) k) (sym c.ok.ensures.value)
+    subst (DeepenAnswers (after t c.args.e c.requires.between) k) (search (rules, tests))
     (answered (after t c.args.e c.requires.between) k (λ d. deep_after t c.args.e c.requires.between k c.requires.represents d c.requires.uniform) (cycle_after t c.args.e c.requires.between k c.requires.represents) c.deepen.result c.deepen.ensures)

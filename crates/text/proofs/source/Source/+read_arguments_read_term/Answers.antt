@@ -1,4 +1,4 @@
-use Rattle.std.proofs.Common.{sym, subst, rules}
+use Rattle.std.proofs.Common.{sym, subst, rules, tests}
 use Rattle.std.proofs.lemmas.Result.{err_from_is_err_and, MatchResult-weaker}
 use Rattle.text.specs.Course.{PhraseStops, ArgumentsStop}
 use Rattle.text.proofs.Reading.{word_to, lexed_parts, lexed_opens, none_parts, none_opens, phrase_none, phrase_other, phrase_variable, phrase_plain, phrase_applied, phrase_applied_stops, arguments_first, arguments_unended, arguments_last, one_further}
@@ -19,7 +19,7 @@ read_arguments-returns-in-Ok-Close-default t c = c.loop-end.invariant.to _ (argu
 pub read_arguments-returns-in_default : goal.read_arguments-returns-in_default
 read_arguments-returns-in_default t c =
     let text = c.args.self.now.bytes.now in
-    subst (ArgumentsStop text c.args.at) (sym c.stray.ensures) (c.loop-end.invariant.stops _ (arguments_unended text _ _ c.in_ok-end.ensures (elim c.in_default.branch [
+    subst (ArgumentsStop text c.args.at) (search (rules, tests)) (c.loop-end.invariant.stops c.in_ok-end.end (arguments_unended text _ _ c.in_ok-end.ensures (elim c.in_default.branch [
       | read_arguments-in_default-via-in-Ok+in_default w ↦ lexed_parts text _ w.in_default.field-0 (search rules) (search rules) (search rules)
       | read_arguments-in_default-via-in_default w ↦ none_parts text _ w.in_default.field-0 (search rules)
     ])))
