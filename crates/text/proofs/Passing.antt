@@ -1,4 +1,4 @@
--- What the loop over the words of a text keeps.
+-- What the loop over the words of a text keeps, and what is told of them.
 use Rattle.std.proofs.Common.{◌≡◌, ℕ, ◌-◌, ◌<◌, true, List, [], ◌∷◌, ◌++◌, length, get_or, take, drop, Ok, Err, Option, Result, MatchResult, is_ok, None, Some, sym, refl, ap, ◌∙◌, subst, append_assoc, append-nil, arith, Bor}
 use Rattle.std.proofs.ByRecursion.{All-push, All-weaker}
 use Rattle.std.specs.Result.{result_and}
@@ -160,8 +160,8 @@ module _ (spellings : ℕ → Option (List ℕ)) (arities : List ℕ) where
       pub all_known : (f : SyntaxFault) → NoToken text at f → AllByRecursion (Known spellings arities) ws
       all_known f n = subst (AllByRecursion (Known spellings arities)) (sym (met_all f n)) walked.known
 
-      pub all_fit : (f : SyntaxFault) → NoToken text at f → MatchResult fit (λ _. AllByRecursion (Sure spellings arities) ws) (Misfit ws)
-      all_fit f n =
+      pub all_judged : (f : SyntaxFault) → NoToken text at f → MatchResult fit (λ _. AllByRecursion (Sure spellings arities) ws) (Misfit ws)
+      all_judged f n =
           subst (λ l. MatchResult fit (λ _. AllByRecursion (Sure spellings arities) l) (Misfit ws)) (sym (met_all f n)) walked.fits
 
   -- that a word is not known is told first

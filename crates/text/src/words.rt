@@ -35,8 +35,8 @@ fn count_arguments(bytes: &[u8]) -> usize
 }
 
 impl Source<'_> {
-    /// Whether all words are known, and whether all fit: where not, the refusal of the first that is not known, and of the first that
-    /// does not fit. A word that is not known does not fit.
+    /// Whether all words of a text are known, and whether all fit: where not, the refusal of the first that is not known, and of the
+    /// first that does not fit. A word that is not known does not fit.
     fn judge_words<L: Lexicon>(
         &self,
         signature: &Signature<L>,

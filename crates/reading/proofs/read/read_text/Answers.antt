@@ -2,8 +2,8 @@ use Rattle.std.proofs.Common.{Ok, Err, refl}
 use Rattle.std.proofs.lemmas.Result.{err_from_is_err_and}
 use Rattle.table.specs.Sheets.{sheet_of}
 use Rattle.reading.specs.Reads.{ReadGives}
-use Rattle.reading.specs.declared.causes.ReadFault.TheVariants.{Text, Full}
-use Rattle.reading.proofs.Settled.{table_coherent, table_short, kept_same, read_settled, refused_as}
+use Rattle.reading.specs.declared.causes.ReadFault.TheVariants.{Text}
+use Rattle.reading.proofs.Settled.{table_coherent, table_short, read_settled, refused_as}
 use Rattle.reading.proofs.read.read_text.Goals as goal
 
 pub returns-in_err-check_text-clause-only : goal.returns-in_err-check_text-clause-only

@@ -36,21 +36,6 @@ loop-e-init c =
       sides = λ k h. absurd (omega arith);
     }
 
-pub merge-requires : goal.merge-requires
-merge-requires c =
-    let rows = c.args.rows.now in
-    let I = coherent_at_hand c.requires in
-    let k = c.loop-e.classing.classes in
-    let f = found c.args.equations.now c.as_slice-e-items.result.now c.as_slice-e-items.ensures c.loop-e.e-index c.loop-e-test.true in
-    let r = sym c.loop-e.invariant.rows in
-    let e = get_or c.as_slice-e-items.result.now c.loop-e.e-index (record { left = 0; right = 0 }) in
-    let left : e.left < length (rows_of c.loop-e.classing.rows.now.items) = subst (λ (z : Rows). e.left < length (rows_of z.items)) r (left_row I _ refl k.of (long rows k) c.loop-e.e-index _ f) in
-    let right : e.right < length (rows_of c.loop-e.classing.rows.now.items) = subst (λ (z : Rows). e.right < length (rows_of z.items)) r (right_row I _ refl k.of (long rows k) c.loop-e.e-index _ f) in
-    record {
-      left = search (rules, tests, left);
-      right = search (rules, tests, right);
-    }
-
 pub loop-e-preserved : goal.loop-e-preserved
 loop-e-preserved c =
     let rows = c.args.rows.now in
@@ -67,6 +52,21 @@ loop-e-preserved c =
       rows = ap (λ (z : Bor Rows). z.now) c.merge.ensures.rows ∙ r;
       sound = subst (λ (z : List ℕ). Sound s n z) m (sound_more I n refl k.of (long rows k) i e f c.loop-e.invariant.sound);
       sides = subst (λ (z : List ℕ). SidesTo s (i + 1) z) m (sides_more I n refl k.of (long rows k) i e f c.loop-e.invariant.sides);
+    }
+
+pub merge-requires : goal.merge-requires
+merge-requires c =
+    let rows = c.args.rows.now in
+    let I = coherent_at_hand c.requires in
+    let k = c.loop-e.classing.classes in
+    let f = found c.args.equations.now c.as_slice-e-items.result.now c.as_slice-e-items.ensures c.loop-e.e-index c.loop-e-test.true in
+    let r = sym c.loop-e.invariant.rows in
+    let e = get_or c.as_slice-e-items.result.now c.loop-e.e-index (record { left = 0; right = 0 }) in
+    let left : e.left < length (rows_of c.loop-e.classing.rows.now.items) = subst (λ (z : Rows). e.left < length (rows_of z.items)) r (left_row I _ refl k.of (long rows k) c.loop-e.e-index _ f) in
+    let right : e.right < length (rows_of c.loop-e.classing.rows.now.items) = subst (λ (z : Rows). e.right < length (rows_of z.items)) r (right_row I _ refl k.of (long rows k) c.loop-e.e-index _ f) in
+    record {
+      left = search (rules, tests, left);
+      right = search (rules, tests, right);
     }
 
 pub invariant_of-result : goal.invariant_of-result

@@ -1,6 +1,6 @@
-use Rattle.std.proofs.Common.{sym, refl, ◌∙◌, arith}
+use Rattle.std.proofs.Common.{sym, refl, arith}
 use Rattle.text.specs.Occurrences.{words}
-use Rattle.text.proofs.Passing.{walked_none, walked_past, unknown_first, walked_refused, walked_fitting, walked_misfit, unknown_unfit, all_known, all_fit}
+use Rattle.text.proofs.Passing.{walked_none, walked_past, unknown_first, walked_refused, walked_fitting, walked_misfit, unknown_unfit, all_known, all_judged}
 use Rattle.text.proofs.source.Source.judge_words.Goals as goal
 use Rattle.text.proofs.source.Source.judge_words.Goals.{else-is_ok-via-then-is_ok+else-from-count_arguments, else-is_ok-via-else-is_ok}
 
@@ -35,7 +35,7 @@ loop-token-preserved-else-is_ok g c =
       walked = λ p sound written.
           let walked = c.loop-token.invariant.walked p sound written in
           elim c.else-is_ok.branch [
-            | else-is_ok-via-then-is_ok+else-from-count_arguments w ↦ walked_fitting _ _ c.args.self.now.bytes.now _ (words 0 p) _ walked _ _ l c.in-Word.is _ c.in-Some.ensures _ w.count_arguments.ensures (sym w.from.ensures ∙ w.if-from-count_arguments.false)
+            | else-is_ok-via-then-is_ok+else-from-count_arguments w ↦ walked_fitting _ _ c.args.self.now.bytes.now _ (words 0 p) _ walked _ _ l c.in-Word.is _ c.in-Some.ensures _ w.count_arguments.ensures (omega (arith, w.from.ensures, w.if-from-count_arguments.false))
             | else-is_ok-via-else-is_ok w ↦ walked_refused _ _ c.args.self.now.bytes.now _ (words 0 p) _ walked _ _ l c.in-Word.is _ c.in-Some.ensures (λ h. cc (h, c.is_ok.ensures.value, w.if-is_ok.false))
           ];
     }
@@ -54,4 +54,4 @@ returns-clause-known g c p sound written =
 
 pub returns-clause-fit : goal.returns-clause-fit
 returns-clause-fit g c p sound written =
-    all_fit _ _ c.args.self.now.bytes.now _ (words 0 p) _ (c.loop-token.invariant.walked p sound written) _ c.in_default.ensures
+    all_judged _ _ c.args.self.now.bytes.now _ (words 0 p) _ (c.loop-token.invariant.walked p sound written) _ c.in_default.ensures
